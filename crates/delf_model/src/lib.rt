@@ -1,0 +1,20 @@
+//! The words of the deletion service: its types, and in `specs/` the definitions that every contract cites.
+#![tactic(auto)]
+
+mod bytes;
+mod call;
+mod entry;
+mod ids;
+mod list;
+mod name;
+mod rows;
+mod schema;
+
+pub use bytes::Bytes;
+pub use call::{Call, Cause, JobLine, Listed, Refusal, Status};
+pub use entry::{Entry, Tag, What};
+pub use ids::{EdgeNo, Job, JobName, Moment, ObjectId, TypeNo};
+pub use list::List;
+pub use name::{Name, NameFault};
+pub use rows::{EdgeKey, EdgeRow, Item, ObjectRow};
+pub use schema::{EdgeRule, EdgeShape, EdgeType, ObjectRule, ObjectType, Schema};
