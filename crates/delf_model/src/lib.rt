@@ -15,6 +15,6 @@ pub use call::{Call, Cause, JobLine, Listed, Refusal, Status};
 pub use entry::{Entry, Tag, What};
 pub use ids::{EdgeNo, Job, JobName, Moment, ObjectId, TypeNo};
 pub use list::List;
-pub use name::{Name, NameFault};
+pub use name::{Name, NameFault, is_name_byte, is_name_text};
 pub use rows::{EdgeKey, EdgeRow, Item, ObjectRow};
 pub use schema::{EdgeRule, EdgeShape, EdgeType, ObjectRule, ObjectType, Schema};
