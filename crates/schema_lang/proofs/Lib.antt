@@ -1,3 +1,5 @@
 pub mod WordLemmas
 pub mod LineLemmas
 pub mod NumberLemmas
+pub mod RowLemmas
+pub mod PartLemmas

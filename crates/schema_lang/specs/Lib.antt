@@ -1,2 +1,5 @@
 pub mod Words
 pub mod Numbers
+pub mod Rows
+pub mod Grammar
+pub mod Views

@@ -1,11 +1,17 @@
 //! The schema language: the words of a document's lines, its schema part, and how a schema is printed.
 #![tactic(auto)]
 
+mod fault;
 mod line;
 mod number;
+mod parse;
 mod payload;
+mod row;
 mod why;
 
+pub use fault::SchemaFault;
 pub use line::{Line, Word, read_line, split_line};
 pub use number::{name_fault, read_number};
+pub use parse::{SchemaPart, parse_part, parse_schema};
+pub use row::Row;
 pub use why::Why;

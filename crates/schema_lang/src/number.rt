@@ -1,7 +1,7 @@
 ghost use Rattle.std.specs.Prelude.{◌≡◌, ◌<◌, ◌^◌, SomeIff, IfSome, IfNone, IsOk, IsErrOf, Err, Ok};
 ghost use Rattle.std.specs.List.{list_all};
 ghost use Rattle.std.specs.Char.{is_ascii_digit};
-ghost use Rattle.delf_model.specs.Names.{is_name_code};
+ghost use Rattle.delf_model.specs.Names.{IsName, is_name_code};
 ghost use Rattle.schema_lang.specs.Numbers.{is_number, number_value, number_in, is_name_word, name_in};
 
 use crate::why::Why;
@@ -54,7 +54,8 @@ fn value_of(text: &[u8]) -> Option<u64>
 /// `_` or none at all, out of range where it has more than 32.
 pub fn name_fault(text: &[u8]) -> Option<Why>
     ensures fault { IfSome result (λ why. name_in text.now ≡ Err why) }
-    ensures name { IfNone result (name_in text.now ≡ Ok text.now) }
+    ensures none { IfNone result (name_in text.now ≡ Ok text.now) }
+    ensures name { IfNone result (IsName text.now) }
 {
     if text.is_empty() || !are_name_bytes(text) {
         Some(Why::Malformed)
