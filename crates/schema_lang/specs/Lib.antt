@@ -3,3 +3,4 @@ pub mod Numbers
 pub mod Rows
 pub mod Grammar
 pub mod Views
+pub mod Spelling

@@ -6,6 +6,7 @@ mod line;
 mod number;
 mod parse;
 mod payload;
+mod print;
 mod row;
 mod why;
 
@@ -13,5 +14,6 @@ pub use fault::SchemaFault;
 pub use line::{Line, Word, read_line, split_line};
 pub use number::{name_fault, read_number};
 pub use parse::{SchemaPart, parse_part, parse_schema};
+pub use print::print_schema;
 pub use row::Row;
 pub use why::Why;

@@ -2,6 +2,7 @@ ghost use Rattle.std.specs.Prelude.{◌≡◌, ◌<◌, IfOk, length, map};
 ghost use Rattle.std.specs.Str.Lines.{lines};
 ghost use Rattle.schema_lang.specs.Grammar.{Gives, first_said, owed, at_line, with_object, with_edge, empty_schema, step_of, rows, part_of, line_after, schema_of};
 ghost use Rattle.schema_lang.specs.Rows.{word_text};
+ghost use Rattle.schema_lang.specs.Spelling.{IsSpellable};
 ghost use Rattle.schema_lang.specs.Views.{part_view, said_view, next_view, IsShorter};
 
 use crate::fault::SchemaFault;
@@ -194,8 +195,15 @@ fn read_rows(
 
 /// The schema part of a document, up to the line `script` or the document's end, and where the part behind it
 /// begins.
-#[tactic(auto, unfolding(crate::specs::Grammar::part_of))]
 pub fn parse_part(alloc: Global, bytes: &[u8]) -> Result<SchemaPart<'_>, SchemaFault>
+    ensures part { Gives part_view result (part_of (lines bytes.now)) }
+    ensures spellable { IfOk result (λ part. IsSpellable part.schema) }
+{
+    read_part(alloc, bytes)
+}
+
+#[tactic(auto, unfolding(crate::specs::Grammar::part_of))]
+fn read_part(alloc: Global, bytes: &[u8]) -> Result<SchemaPart<'_>, SchemaFault>
     ensures { Gives part_view result (part_of (lines bytes.now)) }
 {
     let first = owed_line(alloc, 1, bytes)?;
@@ -222,7 +230,8 @@ pub fn parse_part(alloc: Global, bytes: &[u8]) -> Result<SchemaPart<'_>, SchemaF
 
 /// The schema of a document, whose part for commands is not looked at; or the first fault of its schema part.
 pub fn parse_schema(alloc: Global, bytes: &[u8]) -> Result<Schema, SchemaFault>
-    ensures { Gives (λ schema. schema) result (schema_of bytes.now) }
+    ensures schema { Gives (λ schema. schema) result (schema_of bytes.now) }
+    ensures spellable { IfOk result (λ schema. IsSpellable schema) }
 {
     match parse_part(alloc, bytes) {
         Ok(part) => Ok(part.schema),
