@@ -6,3 +6,4 @@ pub mod PartLemmas
 pub mod PrintLemmas
 pub mod RoundTrip
 pub mod Spellable
+pub mod SpelledLemmas

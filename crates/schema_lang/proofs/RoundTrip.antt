@@ -49,9 +49,9 @@ is_number_decimal n fits =
     ⊎_elim
     (λ nothing. let zero : n ≡ 0 = eqb-true n 0 nothing in rw (zero, decimal_digit 0 (omega arith)) refl)
     (λ some. all_three (eqb (length (decimal n)) 0) (list_all is_ascii_digit (decimal n)) (eqb (get_or (decimal n) 0 0) 48) _
-      (false_from_ne_true _ (λ same. absurd (omega (arith, decimal_nonempty n fits, eqb-true _ 0 same))))
-      (digits_of_decimal n fits)
-      (false_from_ne_true _ (λ same. absurd (omega (arith, first_decimal n (omega (arith, eqb-false n 0 some)) fits, eqb-true _ 48 same)))))
+    (false_from_ne_true _ (λ same. absurd (omega (arith, decimal_nonempty n fits, eqb-true _ 0 same))))
+    (digits_of_decimal n fits)
+    (false_from_ne_true _ (λ same. absurd (omega (arith, first_decimal n (omega (arith, eqb-false n 0 some)) fits, eqb-true _ 48 same)))))
     (either_bool (eqb n 0))
 
 pub number_in_decimal : (least greatest n : ℕ) → n < 2 ^ 64 → least ≤ n → n ≤ greatest → number_in least greatest (decimal n) ≡ Ok n
@@ -189,11 +189,11 @@ schema_back schema fits =
     let behind : List (List ℕ) = map spaced (map edge_words schema.edges) in
     let named : AllByRecursion AreNamed (schema_words schema) = (header_named, (window_named schema.window fits.window, objects_named schema.objects (map edge_words schema.edges) fits.each_object (edges_named schema.edges fits.each_edge))) in
     let document : lines (spelling schema) ≡ spaced header_words ∷ spaced (window_words schema.window) ∷ (map spaced (map object_words schema.objects) ++ behind)
-        = lines_printed (schema_words schema) named
-        ∙ ap (λ (rest : List (List ℕ)). spaced header_words ∷ spaced (window_words schema.window) ∷ rest) (map-append spaced (map object_words schema.objects) (map edge_words schema.edges)) in
+    = lines_printed (schema_words schema) named
+    ∙ ap (λ (rest : List (List ℕ)). spaced header_words ∷ spaced (window_words schema.window) ∷ rest) (map-append spaced (map object_words schema.objects) (map edge_words schema.edges)) in
     let whole : part_of (lines (spelling schema)) ≡ Ok (record { schema = printed_schema schema; rest = []; next = line_behind (line_behind 3 schema.objects) schema.edges })
-        = ap part_of document
-        ∙ part_by header_words (window_words schema.window) (map spaced (map object_words schema.objects) ++ behind) schema.window header_named (window_named schema.window fits.window) refl (window_back schema.window fits.window)
-        ∙ rows_objects schema.objects behind 3 (empty_schema schema.window) fits.each_object (omega (arith, fits.objects))
-        ∙ rows_edges schema.edges (line_behind 3 schema.objects) (record { window = schema.window; objects = objects_from 3 schema.objects; edges = [] }) fits.each_edge (omega (arith, fits.edges)) in
+    = ap part_of document
+    ∙ part_by header_words (window_words schema.window) (map spaced (map object_words schema.objects) ++ behind) schema.window header_named (window_named schema.window fits.window) refl (window_back schema.window fits.window)
+    ∙ rows_objects schema.objects behind 3 (empty_schema schema.window) fits.each_object (omega (arith, fits.objects))
+    ∙ rows_edges schema.edges (line_behind 3 schema.objects) (record { window = schema.window; objects = objects_from 3 schema.objects; edges = [] }) fits.each_edge (omega (arith, fits.edges)) in
     rw whole refl

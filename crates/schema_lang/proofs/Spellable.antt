@@ -42,7 +42,7 @@ number_fits : (least greatest : ℕ) (text : List ℕ) → OfOk (λ n. (least �
 number_fits least greatest text =
     of_cond (λ n. (least ≤ n) × (n ≤ greatest)) (is_number text) _ (Err Malformed)
     (λ number. of_cond (λ n. (least ≤ n) × (n ≤ greatest)) (leb least (number_value text) && leb (number_value text) greatest) (Ok (number_value text)) (Err OutOfRange)
-      (λ within. let parts = both_true (leb least (number_value text)) (leb (number_value text) greatest) within in (leb-true least (number_value text) parts.0, leb-true (number_value text) greatest parts.1)) tt)
+    (λ within. let parts = both_true (leb least (number_value text)) (leb (number_value text) greatest) within in (leb-true least (number_value text) parts.0, leb-true (number_value text) greatest parts.1)) tt)
     tt
 
 plain_fits : (text : List ℕ) → OfOk FitsRule (plain_rule text)
@@ -90,9 +90,9 @@ edge_row_fits : (line : ℕ) (name source target : List ℕ) (rule : Result Edge
 edge_row_fits line name source target (Ok rule) =
     unless_fits (names_why name source target) (Edge (record { name = name; from = source; to = target; rule = rule; line = line }))
     (λ none.
-      let first = worse_none (why_of (name_in name)) (worse (why_of (name_in source)) (why_of (name_in target))) none in
-      let others = worse_none (why_of (name_in source)) (why_of (name_in target)) first.1 in
-      record { name = name_fits name first.0; source = name_fits source others.0; target = name_fits target others.1 })
+    let first = worse_none (why_of (name_in name)) (worse (why_of (name_in source)) (why_of (name_in target))) none in
+    let others = worse_none (why_of (name_in source)) (why_of (name_in target)) first.1 in
+    record { name = name_fits name first.0; source = name_fits source others.0; target = name_fits target others.1 })
 edge_row_fits line name source target (Err why) = tt
 
 row_fits : (line : ℕ) (words : List (List ℕ)) → OfOk FitsRow (row_of line words)
@@ -195,7 +195,7 @@ part_fits : (document : List (List ℕ)) → OfOk FitsPart (part_of document)
 unfolding part_of
 part_fits document =
     behind (owed (first_said 1 document)) _ (λ first. behind (header first) _ (λ second.
-      behind_window second.number (window_of second.words) _ (window_fits second.words) (λ window fits. rows_fit second.rest (line_after second.number) (empty_schema window) (empty_fits window fits))))
+    behind_window second.number (window_of second.words) _ (window_fits second.words) (λ window fits. rows_fit second.rest (line_after second.number) (empty_schema window) (empty_fits window fits))))
 
 -- what the parser gives can be spelled
 pub parsed_fits : (document : List (List ℕ)) (read : Result SchemaPart SchemaFault) → Gives part_view read (part_of document) → IfOk read (λ part. IsSpellable part.schema)

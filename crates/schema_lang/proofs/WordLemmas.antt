@@ -174,7 +174,7 @@ itself_is_no_quote first itself = false_from_ne_true _ (λ quote. let is : first
 third_of : {A : Type 0} (q b s : Bool) (x y z w : A) → q ≡ false → b ≡ false → s ≡ true → cond q x (cond b y (cond s z w)) ≡ z
 third_of q b s x y z w first second third = rw (first, second, third) refl
 
-itself_step : (bytes more : List ℕ) (first : ℕ) → eqb first 92 ≡ false → stands_for_itself first ≡ true → within_payload bytes (first ∷ more) ≡ within_payload (bytes ++ first ∷ []) more
+pub itself_step : (bytes more : List ℕ) (first : ℕ) → eqb first 92 ≡ false → stands_for_itself first ≡ true → within_payload bytes (first ∷ more) ≡ within_payload (bytes ++ first ∷ []) more
 unfolding words
 itself_step bytes more first other itself = third_of (eqb first 34) (eqb first 92) (stands_for_itself first) (behind_payload bytes more) (behind_backslash bytes more) (within_payload (bytes ++ first ∷ []) more) None (itself_is_no_quote first itself) other itself
 

@@ -4,3 +4,4 @@ pub mod Rows
 pub mod Grammar
 pub mod Views
 pub mod Spelling
+pub mod Spelled

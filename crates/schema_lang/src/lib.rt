@@ -2,15 +2,19 @@
 #![tactic(auto)]
 
 mod fault;
+mod laws;
 mod line;
 mod number;
 mod parse;
 mod payload;
 mod print;
 mod row;
+#[cfg(test)]
+mod tests;
 mod why;
 
 pub use fault::SchemaFault;
+pub use laws::spelled_words_are_read;
 pub use line::{Line, Word, read_line, split_line};
 pub use number::{name_fault, read_number};
 pub use parse::{SchemaPart, parse_part, parse_schema};

@@ -129,12 +129,7 @@ enum Step {
     More(Schema),
 }
 
-fn read_step(
-    alloc: Global,
-    schema: Schema,
-    line: u32,
-    words: &[Word],
-) -> Result<Step, SchemaFault>
+fn read_step(alloc: Global, schema: Schema, line: u32, words: &[Word]) -> Result<Step, SchemaFault>
     ensures { Gives (λ step. step) result (step_of line schema (map word_text words.now)) }
 {
     let added = match read_row(alloc, line, words) {
@@ -215,12 +210,7 @@ fn read_part(alloc: Global, bytes: &[u8]) -> Result<SchemaPart<'_>, SchemaFault>
     }
     let second = owed_line(alloc, first.number.saturating_add(1), first.rest)?;
     match read_window(second.words.as_slice()) {
-        Ok(window) => read_rows(
-            alloc,
-            window,
-            second.number.saturating_add(1),
-            second.rest,
-        ),
+        Ok(window) => read_rows(alloc, window, second.number.saturating_add(1), second.rest),
         Err(why) => Err(SchemaFault::Bad {
             line: second.number,
             why,

@@ -79,7 +79,7 @@ fn after_quote(text: &[u8]) -> Option<&[u8]>
 {
     match text {
         [b'"'] => Some(&text[1..]),
-        [b'"', blank @ (b' ' | b'\t'), ..] => Some(&text[1..]),
+        [b'"', b' ' | b'\t', ..] => Some(&text[1..]),
         _ => None,
     }
 }

@@ -179,7 +179,15 @@ pub fn read_row(alloc: Global, line: u32, words: &[Word]) -> Result<Row, SchemaF
         [keyword, name, source, target, rule] => {
             let source = text(source);
             let target = text(target);
-            edge_line(alloc, line, text(keyword), text(name), source, target, text(rule))
+            edge_line(
+                alloc,
+                line,
+                text(keyword),
+                text(name),
+                source,
+                target,
+                text(rule),
+            )
         }
         [] => Err(malformed(line)),
         [_, _] => Err(malformed(line)),
