@@ -1,2 +1,9 @@
+pub mod Graph
+pub mod Legal
 pub mod Names
+pub mod Order
+pub mod Payloads
+pub mod Report
 pub mod RuleSet
+pub mod State
+pub mod Store

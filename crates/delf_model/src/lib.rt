@@ -4,6 +4,7 @@
 mod bytes;
 mod call;
 mod entry;
+mod graph_store;
 mod ids;
 mod list;
 mod name;
@@ -13,6 +14,7 @@ mod schema;
 pub use bytes::Bytes;
 pub use call::{Call, Cause, JobLine, Listed, Refusal, Status};
 pub use entry::{Entry, Tag, What};
+pub use graph_store::GraphStore;
 pub use ids::{EdgeNo, Job, JobName, Moment, ObjectId, TypeNo};
 pub use list::List;
 pub use name::{Name, NameFault};
