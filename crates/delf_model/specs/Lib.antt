@@ -1,3 +1,4 @@
+pub mod Closure
 pub mod Graph
 pub mod Legal
 pub mod Names
@@ -5,5 +6,6 @@ pub mod Order
 pub mod Payloads
 pub mod Report
 pub mod RuleSet
+pub mod Sound
 pub mod State
 pub mod Store
