@@ -9,3 +9,4 @@ pub mod RuleSet
 pub mod Sound
 pub mod State
 pub mod Store
+pub mod Worked

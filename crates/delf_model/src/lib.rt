@@ -10,6 +10,7 @@ mod list;
 mod name;
 mod rows;
 mod schema;
+pub mod worked;
 
 pub use bytes::Bytes;
 pub use call::{Call, Cause, JobLine, Listed, Refusal, Status};
