@@ -1,2 +1,4 @@
+pub mod Checked
+pub mod Distances
 pub mod Names
 pub mod RuleSet
