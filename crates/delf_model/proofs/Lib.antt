@@ -1,1 +1,3 @@
+pub mod Graphs
 pub mod RouteLemmas
+pub mod Runs
