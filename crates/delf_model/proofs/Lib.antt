@@ -1,3 +1,4 @@
 pub mod Graphs
+pub mod Owners
 pub mod RouteLemmas
 pub mod Runs
