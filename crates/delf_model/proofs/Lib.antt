@@ -1,4 +1,5 @@
 pub mod Graphs
+pub mod Leaves
 pub mod Lines
 pub mod Owners
 pub mod RouteLemmas
