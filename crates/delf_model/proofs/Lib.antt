@@ -2,5 +2,6 @@ pub mod Graphs
 pub mod Leaves
 pub mod Lines
 pub mod Owners
+pub mod Plain
 pub mod RouteLemmas
 pub mod Runs
