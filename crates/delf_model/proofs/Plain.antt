@@ -9,6 +9,8 @@ use Rattle.delf_model.specs.declared.rows.EdgeRow.{EdgeRow}
 use Rattle.delf_model.specs.declared.rows.Item.{Item}
 use Rattle.delf_model.specs.declared.rows.Item.TheVariants as item
 use Rattle.delf_model.specs.declared.call.Cause.{Cause}
+use Rattle.delf_model.specs.declared.ids.JobName.{JobName}
+use Rattle.delf_model.specs.declared.ids.JobName.TheVariants.{Named}
 use Rattle.delf_model.specs.declared.entry.Entry.{Entry}
 use Rattle.delf_model.specs.declared.entry.Tag.{Tag}
 use Rattle.delf_model.specs.declared.entry.What.{What}
@@ -201,3 +203,203 @@ afterwards s e legal stand id = by_now (object_at (graph_after s e.moment e.what
   by_now : (o : Option ObjectRow) → object_at (graph_after s e.moment e.what) id ≡ o → Afterwards s e id
   by_now None at = by_owner (owner s id) refl (owner_gone s e id at) (λ birth stood. ap (is_born_at birth) at)
   by_now (Some row) at = by_stood row at (stands s.graph id row.birth) refl
+
+first_none : (o : Option ℕ) → first_of_two o None ≡ o
+first_none None = refl
+first_none (Some x) = refl
+
+-- an entry that starts nothing and passes nothing, and is no erasure, leaves every owner
+quiet_plain : (s : State) (e : Entry) → is_legal s e ≡ true → OwnedStand s → start_of s e.what ≡ None →
+    ((job gone : ℕ) → e.what ≡ Erase job gone → ⊥) → (id : ℕ) →
+    first_passed s.rules (graph_after s e.moment e.what) s.owners id s.graph.edges ≡ None → owner (step s e) id ≡ owner s id
+quiet_plain s e legal stand none other id passed = by_case (afterwards s e legal stand id)
+  where
+  by_case : Afterwards s e id → owner (step s e) id ≡ owner s id
+  by_case (Kept row at is) =
+      is ∙ (ap (λ (o : Option ℕ). first_of_two (owner s id) (first_of_two (root_owner (root_of_start (start_of s e.what)) s.len id) o)) passed ∙
+      (ap (λ (o : Option _). first_of_two (owner s id) (first_of_two (root_owner (root_of_start o) s.len id) None)) none ∙ first_none (owner s id)))
+  by_case (Unowned own now) = now ∙ sym own
+  by_case (Erased job is now) = absurd (other job id is)
+
+-- where the objects are those before, an object keeps its owner, or gets what is passed to it
+same_objects : (s : State) (e : Entry) (id : ℕ) → object_at (graph_after s e.moment e.what) id ≡ object_at s.graph id → OwnedStand s →
+    ((o : Option ObjectRow) → object_at s.graph id ≡ o → (is_some o ≡ true → owner (step s e) id ≡ passed_to s e id) × (o ≡ None → (owner (step s e) id ≡ None) × (owner s id ≡ None)))
+same_objects s e id same stand None at =
+    (λ some. absurd (false≢true some), λ none. (owner_gone s e id (same ∙ at), by_owner (owner s id) refl))
+  where
+  by_owner : (o : Option ℕ) → owner s id ≡ o → owner s id ≡ None
+  by_owner None own = own
+  by_owner (Some job) own = absurd (false≢true (sym (ap (λ (r : Option ObjectRow). is_some r) at) ∙ stand id job own))
+same_objects s e id same stand (Some row) at =
+    (λ some. owner_kept s e id row (same ∙ at) (stands_of s.graph id row at), λ none. absurd (cc none))
+
+root_passed : (root position id : ℕ) (hit : Bool) (own : Option ℕ) → (hit ≡ true → own ≡ None) →
+    first_of_two own (first_of_two (cond hit (Some position) None) None) ≡ cond hit (Some position) own
+root_passed root position id true own free = ap (λ (o : Option ℕ). first_of_two o (Some position)) (free refl)
+root_passed root position id false own free = first_none own
+
+-- an entry that starts a job at a root that stands and has no owner, and passes nothing
+started_plain : (s : State) (e : Entry) (root : ℕ) → OwnedStand s → root_of_start (start_of s e.what) ≡ Some root →
+    is_some (object_at s.graph root) ≡ true → owner s root ≡ None → (id : ℕ) →
+    object_at (graph_after s e.moment e.what) id ≡ object_at s.graph id →
+    first_passed s.rules (graph_after s e.moment e.what) s.owners id s.graph.edges ≡ None →
+    owner (step s e) id ≡ cond (eqb root id) (Some s.len) (owner s id)
+started_plain s e root stand is there_root free_root id same passed = by_row (object_at s.graph id) refl
+  where
+  along : (hit : Bool) → eqb root id ≡ hit → hit ≡ true → owner s id ≡ None
+  along hit at yes_hit = subst (λ (n : ℕ). owner s n ≡ None) (eqb-true root id (at ∙ yes_hit)) free_root
+  by_gone : (hit : Bool) → eqb root id ≡ hit → object_at s.graph id ≡ None → owner s id ≡ None → None ≡ cond hit (Some s.len) (owner s id)
+  by_gone true at none own =
+      absurd (false≢true (sym (ap (λ (r : Option ObjectRow). is_some r) (subst (λ (n : ℕ). object_at s.graph n ≡ None) (sym (eqb-true root id at)) none)) ∙ there_root))
+  by_gone false at none own = sym own
+  by_row : (o : Option ObjectRow) → object_at s.graph id ≡ o → owner (step s e) id ≡ cond (eqb root id) (Some s.len) (owner s id)
+  by_row None at =
+      let both = (same_objects s e id same stand None at).1 refl in
+      both.0 ∙ by_gone (eqb root id) refl at both.1
+  by_row (Some row) at =
+      (same_objects s e id same stand (Some row) at).0 refl ∙
+      (ap (λ (o : Option ℕ). first_of_two (owner s id) (first_of_two (root_owner (root_of_start (start_of s e.what)) s.len id) o)) passed ∙
+      (ap (λ (o : Option ℕ). first_of_two (owner s id) (first_of_two (root_owner o s.len id) None)) is ∙
+      root_passed root s.len id (eqb root id) (owner s id) (along (eqb root id) refl)))
+
+same_edges : (s : State) (now : Graph) (id : ℕ) → ((key : EdgeKey) → edge_stands s.graph key ≡ true → edge_stands now key ≡ true) →
+    first_passed s.rules now s.owners id s.graph.edges ≡ None
+same_edges s now id stand = none_passed s.rules now s.owners id s.graph.edges (all_stand s.graph now stand)
+
+free_source : (rules : RuleSet) (now : Graph) (owners : Owners) (id : ℕ) (key : EdgeKey) → owner_in owners key.from ≡ None →
+    passed_by rules now owners id key ≡ None
+free_source rules now owners id key free = by_hit (eqb key.to id && condemns rules now key)
+  where
+  by_hit : (hit : Bool) → cond hit (owner_in owners key.from) None ≡ None
+  by_hit true = free
+  by_hit false = refl
+
+due_there : (moment : ℕ) (o : Option ObjectRow) → is_due_row moment o ≡ true → is_some o ≡ true
+due_there moment None due = absurd (false≢true due)
+due_there moment (Some row) due = refl
+
+none_is : (o : Option ℕ) → is_none o ≡ true → o ≡ None
+none_is None none = refl
+none_is (Some x) none = absurd (false≢true none)
+
+-- the case of an unlink, by whether it starts a job
+unlink_plain : (s : State) (moment : ℕ) (tag : Tag) (edge from to name : ℕ) → is_legal s (record { moment = moment; what = Unlink tag edge from to name }) ≡ true →
+    OwnedStand s → is_some (object_at s.graph to) ≡ true → owner s to ≡ None → (id : ℕ) →
+    first_passed s.rules (changed s.graph (TakesEdge (key_of edge from to))) s.owners id s.graph.edges ≡ None →
+    (starts : Bool) → is_some (unlink_start s edge from to name) ≡ starts → root_of_start (unlink_start s edge from to name) ≡ cond starts (Some to) None →
+    owner (step s (record { moment = moment; what = Unlink tag edge from to name })) id ≡ cond (starts && eqb to id) (Some s.len) (owner s id)
+unlink_plain s moment tag edge from to name legal stand there_to free_to id passed true is root =
+    started_plain s (record { moment = moment; what = Unlink tag edge from to name }) to stand root there_to free_to id refl passed
+unlink_plain s moment tag edge from to name legal stand there_to free_to id passed false is root =
+    by_case (afterwards s (record { moment = moment; what = Unlink tag edge from to name }) legal stand id)
+  where
+  by_case : Afterwards s (record { moment = moment; what = Unlink tag edge from to name }) id →
+      owner (step s (record { moment = moment; what = Unlink tag edge from to name })) id ≡ owner s id
+  by_case (Kept row at is) =
+      is ∙ (ap (λ (o : Option ℕ). first_of_two (owner s id) (first_of_two (root_owner (root_of_start (unlink_start s edge from to name)) s.len id) o)) passed ∙
+      (ap (λ (o : Option ℕ). first_of_two (owner s id) (first_of_two (root_owner o s.len id) None)) root ∙ first_none (owner s id)))
+  by_case (Unowned own now) = now ∙ sym own
+  by_case (Erased job is now) = absurd (cc is)
+
+unlink_root : (s : State) (edge from to name : ℕ) → root_of_start (unlink_start s edge from to name) ≡ cond (is_some (unlink_start s edge from to name)) (Some to) None
+unlink_root s edge from to name = by_hit _
+  where
+  by_hit : (hit : Bool) → root_of_start (cond hit (Some (to, Named name)) None) ≡
+      cond (is_some {T = ℕ × JobName} (cond hit (Some (to, Named name)) None)) (Some to) None
+  by_hit true = refl
+  by_hit false = refl
+
+-- the case of a cut
+cut_owner : (job : ℕ) (source target own : Option ℕ) (hit c : Bool) → (hit ≡ true → own ≡ target) → (is_job job source || is_job job target) ≡ true →
+    first_of_two own (first_of_two None (cond (hit && c) source None)) ≡ cond (hit && is_none target && c) (Some job) own
+cut_owner job source target own false c along line = first_none own
+cut_owner job source None own true true along line =
+    ap (λ (o : Option ℕ). first_of_two o source) (along refl) ∙ by_line source line
+  where
+  by_line : (o : Option ℕ) → (is_job job o || false) ≡ true → o ≡ Some job
+  by_line None own_line = absurd (false≢true own_line)
+  by_line (Some x) own_line = ap Some (eqb-true x job (by_or (eqb x job) own_line))
+    where
+    by_or : (b : Bool) → (b || false) ≡ true → b ≡ true
+    by_or true is = refl
+    by_or false is = is
+cut_owner job source None own true false along line = first_none own
+cut_owner job source (Some t) own true c along line = ap (λ (o : Option ℕ). first_of_two o (first_of_two None (cond c source None))) (along refl) ∙ sym (along refl)
+
+cut_plain : (s : State) (moment job edge from to : ℕ) → OwnedStand s → EndsStand s.graph →
+    edge_stands s.graph (key_of edge from to) ≡ true → (is_owned_by s job from || is_owned_by s job to) ≡ true → (id : ℕ) →
+    owner (step s (record { moment = moment; what = Cut job edge from to })) id ≡ plain_owner s (Cut job edge from to) id
+cut_plain s moment job edge from to stand ends stood line id = by_row (object_at s.graph id) refl
+  where
+  along : (hit : Bool) → eqb to id ≡ hit → hit ≡ true → owner s id ≡ owner s to
+  along hit at one = ap (λ (n : ℕ). owner s n) (sym (eqb-true to id (at ∙ one)))
+  gone_target : (hit : Bool) (rest : Bool) → eqb to id ≡ hit → object_at s.graph id ≡ None → owner s id ≡ None → None ≡ cond (hit && is_none (owner s to) && rest) (Some job) (owner s id)
+  gone_target true rest at none own =
+      absurd (false≢true (sym (ap (λ (r : Option ObjectRow). is_some r) (subst (λ (n : ℕ). object_at s.graph n ≡ None) (sym (eqb-true to id at)) none)) ∙ ends.target (key_of edge from to) stood))
+  gone_target false rest at none own = sym own
+  by_row : (o : Option ObjectRow) → object_at s.graph id ≡ o → owner (step s (record { moment = moment; what = Cut job edge from to })) id ≡ plain_owner s (Cut job edge from to) id
+  by_row None at =
+      let both = (same_objects s (record { moment = moment; what = Cut job edge from to }) id refl stand None at).1 refl in
+      both.0 ∙ gone_target (eqb to id) (condemns s.rules (changed s.graph (TakesEdge (key_of edge from to))) (key_of edge from to)) refl at both.1
+  by_row (Some row) at =
+      (same_objects s (record { moment = moment; what = Cut job edge from to }) id refl stand (Some row) at).0 refl ∙
+      (ap (λ (o : Option ℕ). first_of_two (owner s id) (first_of_two None o)) (taken_passes s.rules s.graph s.owners id (key_of edge from to) stood) ∙
+      cut_owner job (owner s from) (owner s to) (owner s id) (eqb to id) (condemns s.rules (changed s.graph (TakesEdge (key_of edge from to))) (key_of edge from to)) (along (eqb to id) refl) line)
+
+-- the owner after a legal entry
+pub owner_plain : (s : State) (moment : ℕ) (what : What) → is_legal s (record { moment = moment; what = what }) ≡ true → OwnedStand s → EndsStand s.graph → (id : ℕ) →
+    owner (step s (record { moment = moment; what = what })) id ≡ plain_owner s what id
+owner_plain s moment (Create tag kind new size) legal stand ends id =
+    quiet_plain s (record { moment = moment; what = Create tag kind new size }) legal stand refl (λ job gone is. absurd (cc is)) id
+    (same_edges s (graph_after s moment (Create tag kind new size)) id (λ key stood. stood))
+owner_plain s moment (Update tag target size) legal stand ends id =
+    quiet_plain s (record { moment = moment; what = Update tag target size }) legal stand refl (λ job gone is. absurd (cc is)) id
+    (same_edges s (graph_after s moment (Update tag target size)) id (λ key stood. stood))
+owner_plain s moment (Link tag edge from to size) legal stand ends id =
+    quiet_plain s (record { moment = moment; what = Link tag edge from to size }) legal stand refl (λ job gone is. absurd (cc is)) id
+    (same_edges s (graph_after s moment (Link tag edge from to size)) id (λ key stood. edge_stands_put s.graph (new_edge s edge from to size) key stood))
+owner_plain s moment (Unlink tag edge from to name) legal stand ends id =
+    let line = none_of (refusals s moment (Unlink tag edge from to name)) (allowed_of s (record { moment = moment; what = Unlink tag edge from to name }) legal) in
+    unlink_plain s moment tag edge from to name legal stand (there s to line.1.0) (free s to line.1.1.1.0) id
+    (taken_passes s.rules s.graph s.owners id (key_of edge from to) (edge_there s (key_of edge from to) line.1.1.1.1.0) ∙
+    free_source s.rules (changed s.graph (TakesEdge (key_of edge from to))) s.owners id (key_of edge from to) (free s from line.1.1.0))
+    (is_some (unlink_start s edge from to name)) refl (unlink_root s edge from to name)
+owner_plain s moment (Delete tag root name) legal stand ends id =
+    let line = none_of (refusals s moment (Delete tag root name)) (allowed_of s (record { moment = moment; what = Delete tag root name }) legal) in
+    started_plain s (record { moment = moment; what = Delete tag root name }) root stand refl (there s root line.0) (free s root line.1.0) id refl
+    (same_edges s (graph_after s moment (Delete tag root name)) id (λ key stood. stood))
+owner_plain s moment (Restore tag job) legal stand ends id =
+    quiet_plain s (record { moment = moment; what = Restore tag job }) legal stand refl (λ other gone is. absurd (cc is)) id
+    (same_edges s (graph_after s moment (Restore tag job)) id (λ key stood. stood))
+owner_plain s moment (Expire root) legal stand ends id =
+    let line = and_parts (is_due_row moment (object_at s.graph root)) (is_none (owner s root)) (allowed_of s (record { moment = moment; what = Expire root }) legal) in
+    started_plain s (record { moment = moment; what = Expire root }) root stand refl (due_there moment (object_at s.graph root) line.0) (none_is (owner s root) line.1) id refl
+    (same_edges s (graph_after s moment (Expire root)) id (λ key stood. stood))
+owner_plain s moment (Cut job edge from to) legal stand ends id =
+    let line = and_parts (edge_stands s.graph (key_of edge from to)) (is_owned_by s job from || is_owned_by s job to)
+        (allowed_of s (record { moment = moment; what = Cut job edge from to }) legal) in
+    cut_plain s moment job edge from to stand ends line.0 line.1 id
+owner_plain s moment (Erase job gone) legal stand ends id = by_hit (eqb gone id) refl
+  where
+  by_hit : (hit : Bool) → eqb gone id ≡ hit → owner (step s (record { moment = moment; what = Erase job gone })) id ≡ cond hit None (owner s id)
+  by_hit true at =
+      owner_gone s (record { moment = moment; what = Erase job gone }) id
+      (find-filter_object gone s.graph.objects id ∙ ap (λ (b : Bool). cond b None (object_at s.graph id)) at)
+  by_hit false at =
+      by_case (afterwards s (record { moment = moment; what = Erase job gone }) legal stand id)
+    where
+    by_case : Afterwards s (record { moment = moment; what = Erase job gone }) id → owner (step s (record { moment = moment; what = Erase job gone })) id ≡ owner s id
+    by_case (Kept row here is) =
+        is ∙ (ap (λ (o : Option ℕ). first_of_two (owner s id) (first_of_two None o)) (same_edges s (graph_after s moment (Erase job gone)) id (λ key stood. stood)) ∙ first_none (owner s id))
+    by_case (Unowned own now) = now ∙ sym own
+    by_case (Erased other is now) = absurd (false≢true (sym at ∙ eq-eqb gone id (let same : gone ≡ id = cc in same)))
+owner_plain s moment (Put job i) legal stand ends id =
+    quiet_plain s (record { moment = moment; what = Put job i }) legal stand refl (λ other gone is. absurd (cc is)) id
+    (same_edges s (graph_after s moment (Put job i)) id (λ key stood. put_change_stands s (slice_get s.items i) key stood))
+  where
+  put_change_stands : (t : State) (o : Option Logged) (key : EdgeKey) → edge_stands t.graph key ≡ true → edge_stands (changed t.graph (put_change t o)) key ≡ true
+  put_change_stands t None key stood = stood
+  put_change_stands t (Some logged) key stood = edge_stands_put_item t logged.item (judged t logged.item) key stood
+owner_plain s moment (Purge job) legal stand ends id =
+    quiet_plain s (record { moment = moment; what = Purge job }) legal stand refl (λ other gone is. absurd (cc is)) id
+    (same_edges s (graph_after s moment (Purge job)) id (λ key stood. stood))
