@@ -1,3 +1,4 @@
+pub mod Ends
 pub mod Graphs
 pub mod Leaves
 pub mod Lines
