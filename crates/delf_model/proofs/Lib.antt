@@ -1,8 +1,10 @@
 pub mod Ends
 pub mod Graphs
+pub mod Jobs
 pub mod Leaves
 pub mod Lines
 pub mod Owners
 pub mod Plain
 pub mod RouteLemmas
 pub mod Runs
+pub mod Sums
