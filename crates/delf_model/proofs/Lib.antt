@@ -5,6 +5,7 @@ pub mod Leaves
 pub mod Lines
 pub mod Owners
 pub mod Plain
+pub mod Room
 pub mod RouteLemmas
 pub mod Runs
 pub mod Sums
