@@ -4,6 +4,7 @@ pub mod Jobs
 pub mod Leaves
 pub mod Lines
 pub mod Owners
+pub mod Places
 pub mod Plain
 pub mod Room
 pub mod RouteLemmas
