@@ -1,0 +1,11 @@
+//! What a program reads from, writes to and asks the time of, as traits whose contracts name every
+//! byte that they tell of, with forms in memory that tell all and thin forms over std that tell none.
+#![tactic(auto)]
+
+mod clock;
+mod sink;
+mod source;
+
+pub use clock::{Clock, Moment};
+pub use sink::Sink;
+pub use source::{Failed, Source};
