@@ -3,9 +3,15 @@
 #![tactic(auto)]
 
 mod clock;
+mod lists;
+mod memory;
 mod sink;
 mod source;
+mod system;
 
 pub use clock::{Clock, Moment};
+pub use lists::{Bytes, Numbers};
+pub use memory::{ListClock, MemSink, MemSource};
 pub use sink::Sink;
 pub use source::{Failed, Source};
+pub use system::{StdSink, StdSource, SystemClock};
