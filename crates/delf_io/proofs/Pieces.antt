@@ -1,5 +1,5 @@
 -- A list, cut where a piece of it was handed on.
-use Rattle.std.proofs.Common.{ℕ, ◌≡◌, ◌+◌, List, ◌++◌, take, drop, sym, ◌∙◌, ap}
+use Rattle.std.proofs.Common.{ℕ, ◌≡◌, ◌+◌, List, ◌++◌, take, drop, sym}
 use Rattle.std.proofs.lemmas.List.{take-append-drop, drop-drop}
 
 -- what is left is the piece of it that was handed on, and what is left then

@@ -2,16 +2,29 @@
 //! byte that they tell of, with forms in memory that tell all and thin forms over std that tell none.
 #![tactic(auto)]
 
+mod bytes;
 mod clock;
-mod lists;
-mod memory;
+mod list_clock;
+mod mem_sink;
+mod mem_source;
+mod numbers;
 mod sink;
 mod source;
-mod system;
+mod std_sink;
+mod std_source;
+mod system_clock;
 
+pub use bytes::Bytes;
 pub use clock::{Clock, Moment};
-pub use lists::{Bytes, Numbers};
-pub use memory::{ListClock, MemSink, MemSource};
+pub use list_clock::ListClock;
+pub use mem_sink::MemSink;
+pub use mem_source::MemSource;
+pub use numbers::Numbers;
 pub use sink::Sink;
 pub use source::{Failed, Source};
-pub use system::{StdSink, StdSource, SystemClock};
+pub use std_sink::StdSink;
+pub use std_source::StdSource;
+pub use system_clock::SystemClock;
+
+#[cfg(test)]
+mod tests;
