@@ -1,6 +1,5 @@
-use Rattle.std.proofs.Common.{◌≡◌, ap, sym, ◌∙◌, take, drop}
+use Rattle.std.proofs.Common.{◌≡◌, arith, ap, sym, ◌∙◌, take, drop}
 use Rattle.std.proofs.lemmas.Grind.{common_steps}
-use Rattle.std.proofs.Common.{arith}
 use Rattle.delf_io.proofs.Pieces.{drop-piece}
 use Rattle.delf_io.proofs.mem_source.MemSourceSource.next.Goals as goal
 
