@@ -1,5 +1,7 @@
 //! The clock of the system.
 
+ghost use Rattle.std.specs.Prelude.{◌≡◌};
+
 use crate::clock::{Clock, Moment};
 use std::time;
 
@@ -14,7 +16,9 @@ pub struct SystemClock<'a, R: time::Clock> {
 
 impl<'a, R: time::Clock> SystemClock<'a, R> {
     /// The clock of `rt`, which was not asked yet.
-    pub fn of(rt: &'a R) -> SystemClock<'a, R> {
+    pub fn of(rt: &'a R) -> SystemClock<'a, R>
+        ensures { ⟦<SystemClock<'a, R> as Clock>⟧.times_asked result ≡ 0 }
+    {
         SystemClock {
             rt,
             last: 0,
