@@ -1,4 +1,5 @@
 pub mod Ends
+pub mod Good
 pub mod Graphs
 pub mod Jobs
 pub mod Leaves

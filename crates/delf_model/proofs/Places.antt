@@ -339,7 +339,7 @@ erase_once s which gone job id birth own idle handled one once (Some row) at = b
       let places_one : places s birth ≤ 1 = one birth in
       total _ (erasures s job id birth) 0 (one_if (is_end_item job id birth (item.Object which row))) push (let is_one : one_if (is_end_item job id birth (item.Object which row)) ≡ 1 = ap one_if is in omega arith)
 
-handled_erasures : (s : State) (i job id birth : ℕ) (how : Handled) (logged : Logged) → slice_get s.items i ≡ Some logged →
+pub handled_erasures : (s : State) (i job id birth : ℕ) (how : Handled) (logged : Logged) → slice_get s.items i ≡ Some logged →
     count_by (is_erasure_of job id birth) (handled_at s.items i how) ≡ erasures s job id birth
 handled_erasures s i job id birth how logged at = cancel _ _ _ (sum_handled (λ l. one_if (is_erasure_of job id birth l)) s.items i how logged at)
   where
