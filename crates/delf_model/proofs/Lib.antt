@@ -1,1 +1,3 @@
+pub mod CheckedLemmas
+pub mod NumberLemmas
 pub mod RouteLemmas
