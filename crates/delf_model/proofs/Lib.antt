@@ -1,3 +1,10 @@
 pub mod CheckedLemmas
+pub mod Ends
+pub mod Graphs
+pub mod Leaves
+pub mod Lines
 pub mod NumberLemmas
+pub mod Owners
+pub mod Plain
 pub mod RouteLemmas
+pub mod Runs
