@@ -3,6 +3,7 @@
 
 mod bytes;
 mod call;
+mod distances;
 mod entry;
 mod graph_store;
 mod ids;
@@ -22,5 +23,5 @@ pub use ids::{EdgeNo, Job, JobName, Moment, ObjectId, TypeNo};
 pub use list::List;
 pub use name::{Name, NameFault, is_name_byte, is_name_text};
 pub use rows::{EdgeKey, EdgeRow, Item, ObjectRow};
-pub use rules::Rules;
+pub use rules::{Broken, JudgeFault, Rules, RulesFault};
 pub use schema::{EdgeRule, EdgeShape, EdgeType, ObjectRule, ObjectType, Schema};
