@@ -1,2 +1,15 @@
+pub mod Broken
+pub mod Checked
+pub mod Closure
+pub mod Distances
+pub mod Graph
+pub mod Legal
 pub mod Names
+pub mod Order
+pub mod Payloads
+pub mod Report
 pub mod RuleSet
+pub mod Sound
+pub mod State
+pub mod Store
+pub mod Worked

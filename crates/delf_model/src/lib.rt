@@ -3,18 +3,25 @@
 
 mod bytes;
 mod call;
+mod distances;
 mod entry;
+mod graph_store;
 mod ids;
 mod list;
 mod name;
+mod numbering;
 mod rows;
+mod rules;
 mod schema;
+pub mod worked;
 
 pub use bytes::Bytes;
 pub use call::{Call, Cause, JobLine, Listed, Refusal, Status};
 pub use entry::{Entry, Tag, What};
+pub use graph_store::GraphStore;
 pub use ids::{EdgeNo, Job, JobName, Moment, ObjectId, TypeNo};
 pub use list::List;
 pub use name::{Name, NameFault, is_name_byte, is_name_text};
 pub use rows::{EdgeKey, EdgeRow, Item, ObjectRow};
+pub use rules::{Broken, JudgeFault, Rules, RulesFault};
 pub use schema::{EdgeRule, EdgeShape, EdgeType, ObjectRule, ObjectType, Schema};
