@@ -1,15 +1,14 @@
 -- A printed line has the words that were printed.
-use Rattle.std.proofs.Common.{◌≡◌, ◌≢◌, ℕ, zero, suc, ◌+◌, ◌-◌, ◌<◌, ◌≤◌, Bool, true, false, cond, eqb, Option, Some, None, List, [], ◌∷◌, ◌++◌, length, get_or, take, map, refl, sym, ap, subst, ◌∙◌, append_assoc, arith, rules}
-use Rattle.std.specs.Prelude.{◌&&◌, ◌||◌}
-use Rattle.std.specs.List.{list_all, flat_map, AllByRecursion, All}
+use Rattle.std.proofs.Common.{◌≡◌, ◌≢◌, ℕ, zero, suc, ◌-◌, ◌<◌, ◌≤◌, Bool, true, false, eqb, Some, List, [], ◌∷◌, ◌++◌, length, get_or, map, refl, sym, ap, ◌∙◌, append_assoc, arith}
+use Rattle.std.specs.Prelude.{◌&&◌}
+use Rattle.std.specs.List.{list_all, flat_map, AllByRecursion}
 use Rattle.std.specs.Str.Lines.{lines, strip_carriage_return}
 use Rattle.std.proofs.lemmas.Bool.{eqb-true, false_from_ne_true}
 use Rattle.std.proofs.lemmas.Bool.Decides.{nat_tests}
 use Rattle.std.proofs.lemmas.List.{append-nil}
 use Rattle.std.proofs.lemmas.List.Elements.{All-from_recursion}
 use Rattle.delf_model.specs.Names.{is_name_code}
-use Rattle.schema_lang.specs.declared.line.Word.{Word}
-use Rattle.schema_lang.specs.declared.line.Word.TheVariants.{Plain, Payload}
+use Rattle.schema_lang.specs.declared.line.Word.TheVariants.{Plain}
 use Rattle.schema_lang.specs.Words.{is_blank, is_skipped, words, within_plain, line_of}
 use Rattle.schema_lang.specs.Rows.{word_text}
 use Rattle.schema_lang.specs.Grammar.{said_by}

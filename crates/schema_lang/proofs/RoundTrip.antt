@@ -1,7 +1,7 @@
 -- What is printed of a schema is read back as the same schema.
-use Rattle.std.proofs.Common.{◌≡◌, ℕ, ◌+◌, ◌-◌, ◌*◌, ◌<◌, ◌≤◌, ◌^◌, Bool, true, false, cond, eqb, leb, ltb, Result, Ok, Err, List, [], ◌∷◌, ◌++◌, length, get_or, map, refl, sym, ap, ◌∙◌, append_assoc, length-append, arith, rules, ⊎_elim, le-leb, lt-ltb}
-use Rattle.std.specs.Prelude.{◌&&◌, ◌||◌, not, IsTrue, codes, nat_le, nat_lt}
-use Rattle.std.specs.List.{list_all, flat_map, AllByRecursion}
+use Rattle.std.proofs.Common.{◌≡◌, ℕ, ◌+◌, ◌<◌, ◌≤◌, ◌^◌, Bool, true, false, eqb, Ok, List, [], ◌∷◌, ◌++◌, length, get_or, map, refl, sym, ap, ◌∙◌, append_assoc, length-append, arith, rules, ⊎_elim, le-leb, lt-ltb}
+use Rattle.std.specs.Prelude.{◌&&◌, ◌||◌, not, codes, nat_le}
+use Rattle.std.specs.List.{list_all, AllByRecursion}
 use Rattle.std.specs.Fmt.{decimal}
 use Rattle.std.specs.Char.{is_ascii_digit}
 use Rattle.std.specs.Str.Lines.{lines}
@@ -10,7 +10,7 @@ use Rattle.std.proofs.lemmas.Fmt.{digits_decimal, digits_value-decimal, decimal_
 use Rattle.std.proofs.lemmas.Bool.{eqb-true, eqb-false, leb-true, false_from_ne_true}
 use Rattle.std.proofs.lemmas.Bool.Decides.{nat_tests}
 use Rattle.std.proofs.lemmas.List.{append-nil, map-append}
-use Rattle.delf_model.specs.Names.{IsName, is_name, is_name_code}
+use Rattle.delf_model.specs.Names.{IsName, is_name_code}
 use Rattle.delf_model.specs.declared.schema.ObjectRule.{ObjectRule}
 use Rattle.delf_model.specs.declared.schema.ObjectRule.TheVariants.{Directly, DirectlyOnly, ByAny, ShortTtl, NotDeleted}
 use Rattle.delf_model.specs.declared.schema.EdgeRule.{EdgeRule}
@@ -18,15 +18,12 @@ use Rattle.delf_model.specs.declared.schema.EdgeRule.TheVariants.{Deep, Shallow,
 use Rattle.delf_model.specs.declared.schema.ObjectType.{ObjectType}
 use Rattle.delf_model.specs.declared.schema.EdgeType.{EdgeType}
 use Rattle.delf_model.specs.declared.schema.Schema.{Schema}
-use Rattle.schema_lang.specs.declared.why.Why.{Why}
-use Rattle.schema_lang.specs.declared.row.Row.{Row}
-use Rattle.schema_lang.specs.declared.row.Row.TheVariants.{Script, Object, Edge}
-use Rattle.schema_lang.specs.declared.parse.Step.{Step}
-use Rattle.schema_lang.specs.declared.parse.Step.TheVariants.{Ended, More}
-use Rattle.schema_lang.specs.Numbers.{is_number, number_value, number_in, name_in, is_name_word}
+use Rattle.schema_lang.specs.declared.row.Row.TheVariants.{Object, Edge}
+use Rattle.schema_lang.specs.declared.parse.Step.TheVariants.{More}
+use Rattle.schema_lang.specs.Numbers.{is_number, number_value, number_in, name_in}
 use Rattle.schema_lang.specs.Rows.{row_of, is_header, window_of}
-use Rattle.schema_lang.specs.Grammar.{Part, Said, Fault, rows, part_of, schema_of, said_at, step_of, line_after, first_said, empty_schema, ◌>>=◌}
-use Rattle.schema_lang.specs.Spelling.{IsSpellable, FitsObject, FitsEdge, FitsRule, ReadsAs, spelling, spaced, printed_line, schema_words, header_words, window_words, object_words, edge_words, object_rule_words, edge_rule_word, objects_from, edges_from, line_behind, printed_schema}
+use Rattle.schema_lang.specs.Grammar.{rows, part_of, step_of, line_after, empty_schema}
+use Rattle.schema_lang.specs.Spelling.{IsSpellable, FitsObject, FitsEdge, FitsRule, ReadsAs, spelling, spaced, schema_words, header_words, window_words, object_words, edge_words, object_rule_words, edge_rule_word, objects_from, edges_from, line_behind, printed_schema}
 use Rattle.schema_lang.proofs.WordLemmas.{either_bool}
 use Rattle.schema_lang.proofs.NumberLemmas.{digits_on}
 use Rattle.schema_lang.proofs.PrintLemmas.{IsNamed, AreNamed, both_true, said_spaced, lines_printed}

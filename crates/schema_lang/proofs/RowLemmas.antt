@@ -1,5 +1,5 @@
 -- Lines of a number of words that no row has.
-use Rattle.std.proofs.Common.{◌≡◌, ℕ, ◌≢◌, List, [], ◌∷◌, length, Err, refl, arith}
+use Rattle.std.proofs.Common.{◌≡◌, ℕ, ◌≢◌, List, [], ◌∷◌, length, Err, refl}
 use Rattle.schema_lang.specs.declared.why.Why.TheVariants.{Malformed}
 use Rattle.schema_lang.specs.Rows.{row_of}
 

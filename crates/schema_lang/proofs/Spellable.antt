@@ -1,13 +1,12 @@
 -- A schema that was read can be spelled.
-use Rattle.std.proofs.Common.{◌≡◌, ℕ, ◌+◌, ◌<◌, ◌≤◌, Bool, true, false, cond, eqb, leb, ltb, Option, Some, None, Result, Ok, Err, List, [], ◌∷◌, ◌++◌, length, refl, sym, ap, ◌∙◌, arith, length-append, le-leb, ⊎_elim}
+use Rattle.std.proofs.Common.{◌≡◌, ℕ, ◌≤◌, Bool, true, false, cond, eqb, leb, ltb, Option, Some, None, Result, Ok, Err, List, [], ◌∷◌, ◌++◌, length, refl, arith, length-append, le-leb}
 use Rattle.std.specs.Prelude.{◌&&◌, not, codes, IfOk}
 use Rattle.std.specs.List.{list_all, AllByRecursion}
 use Rattle.std.specs.Str.{bytes_eq}
-use Rattle.std.specs.Str.Lines.{lines}
 use Rattle.std.proofs.lemmas.Bool.{leb-true, ltb-true, eqb-false, not-true}
 use Rattle.delf_model.specs.Names.{IsName, is_name_code}
 use Rattle.delf_model.specs.declared.schema.ObjectRule.{ObjectRule}
-use Rattle.delf_model.specs.declared.schema.ObjectRule.TheVariants.{Directly, DirectlyOnly, ByAny, ShortTtl, NotDeleted}
+use Rattle.delf_model.specs.declared.schema.ObjectRule.TheVariants.{Directly, DirectlyOnly, ByAny, NotDeleted}
 use Rattle.delf_model.specs.declared.schema.EdgeRule.{EdgeRule}
 use Rattle.delf_model.specs.declared.schema.ObjectType.{ObjectType}
 use Rattle.delf_model.specs.declared.schema.EdgeType.{EdgeType}
@@ -21,12 +20,11 @@ use Rattle.schema_lang.specs.declared.parse.Step.TheVariants.{Ended, More}
 use Rattle.schema_lang.specs.declared.fault.SchemaFault.{SchemaFault}
 use Rattle.schema_lang.specs.declared.parse.SchemaPart.{SchemaPart}
 use Rattle.schema_lang.specs.Words.{line_of}
-use Rattle.schema_lang.specs.Numbers.{is_number, number_value, number_in, name_in, is_name_word}
+use Rattle.schema_lang.specs.Numbers.{is_number, number_value, number_in, name_in}
 use Rattle.schema_lang.specs.Rows.{row_of, why_of, worse, unless, plain_rule, ttl_of, edge_rule, object_row, edge_row, names_why, window_of}
-use Rattle.schema_lang.specs.Grammar.{Part, Said, Fault, Gives, rows, part_of, schema_of, said_at, said_by, step_of, row_at, goes_on, behind_step, with_object, with_edge, at_line, line_after, first_said, owed, header, empty_schema, ◌>>=◌}
+use Rattle.schema_lang.specs.Grammar.{Part, Fault, Gives, rows, part_of, said_at, said_by, step_of, row_at, goes_on, behind_step, with_object, with_edge, at_line, line_after, first_said, owed, header, empty_schema, ◌>>=◌}
 use Rattle.schema_lang.specs.Views.{part_view}
 use Rattle.schema_lang.specs.Spelling.{IsSpellable, FitsObject, FitsEdge, FitsRule}
-use Rattle.schema_lang.proofs.WordLemmas.{either_bool}
 use Rattle.schema_lang.proofs.PrintLemmas.{both_true}
 
 -- a fact of an Ok

@@ -1,12 +1,12 @@
 -- A line that spells words is read as these words.
-use Rattle.std.proofs.Common.{◌≡◌, ◌≢◌, ℕ, ◌+◌, ◌*◌, Bool, true, false, cond, eqb, Option, Some, None, List, [], ◌∷◌, ◌++◌, refl, sym, ap, ◌∙◌, append_assoc, arith, ⊎_elim}
+use Rattle.std.proofs.Common.{◌≡◌, ℕ, ◌+◌, ◌*◌, true, false, eqb, Option, Some, List, [], ◌∷◌, ◌++◌, refl, sym, ap, ◌∙◌, append_assoc, ⊎_elim}
 use Rattle.std.specs.Prelude.{option_and_then, ◌||◌}
 use Rattle.std.proofs.lemmas.Bool.{eqb-true, false_from_ne_true}
 use Rattle.std.proofs.lemmas.List.{append-nil}
 use Rattle.schema_lang.specs.declared.line.Word.{Word}
 use Rattle.schema_lang.specs.declared.line.Word.TheVariants.{Plain, Payload}
-use Rattle.schema_lang.specs.Words.{is_blank, words, within_plain, within_payload, behind_payload, behind_backslash, behind_x, behind_high, with_word, hex_digit, stands_for_itself}
-use Rattle.schema_lang.specs.Spelled.{AreBlank, HaveNoBlank, IsPlainText, IsHexByte, SpellsByte, SpellsBytes, SpellsWord, EndsWord, SpellsWords}
+use Rattle.schema_lang.specs.Words.{words, within_plain, within_payload, behind_payload, with_word, hex_digit, stands_for_itself}
+use Rattle.schema_lang.specs.Spelled.{AreBlank, HaveNoBlank, IsPlainText, SpellsByte, SpellsBytes, SpellsWord, EndsWord, SpellsWords}
 use Rattle.schema_lang.proofs.WordLemmas.{itself_step}
 
 words_behind_blanks : (before rest : List ℕ) → AreBlank before → words (before ++ rest) ≡ words rest
@@ -52,9 +52,9 @@ byte_read bytes text rest byte spells =
     ⊎_elim
     (λ plain. ap (λ (t : List ℕ). within_payload bytes (t ++ rest)) plain.0 ∙ itself_step bytes rest byte (no_backslash byte plain.1) plain.1)
     (λ other. ⊎_elim
-      (λ escaped. ap (λ (t : List ℕ). within_payload bytes (t ++ rest)) escaped.0 ∙ escaped_read bytes rest byte escaped.1)
-      (λ hex. hex_case hex.0 hex.1 hex.2 hex.3 hex.4 hex.5 hex.6 hex.7)
-      other)
+    (λ escaped. ap (λ (t : List ℕ). within_payload bytes (t ++ rest)) escaped.0 ∙ escaped_read bytes rest byte escaped.1)
+    (λ hex. hex_case hex.0 hex.1 hex.2 hex.3 hex.4 hex.5 hex.6 hex.7)
+    other)
     spells
   where
     no_backslash : (b : ℕ) → stands_for_itself b ≡ true → eqb b 92 ≡ false

@@ -1,12 +1,10 @@
 -- What the words of one line mean among the rows of a schema.
-use Rattle.std.specs.Prelude.{ℕ, Option, Some, None, Result, Ok, Err, List, [], ◌∷◌, ◌&&◌, Bool, true, false, if◌then◌else◌, codes}
+use Rattle.std.specs.Prelude.{ℕ, Option, Some, None, Result, Ok, Err, List, [], ◌∷◌, ◌&&◌, Bool, false, if◌then◌else◌, codes}
 use Rattle.std.specs.Str.{bytes_eq}
 use Rattle.delf_model.specs.declared.schema.ObjectRule.{ObjectRule}
 use Rattle.delf_model.specs.declared.schema.ObjectRule.TheVariants.{Directly, DirectlyOnly, ByAny, ShortTtl, NotDeleted}
 use Rattle.delf_model.specs.declared.schema.EdgeRule.{EdgeRule}
 use Rattle.delf_model.specs.declared.schema.EdgeRule.TheVariants.{Deep, Shallow, Refcount}
-use Rattle.delf_model.specs.declared.schema.ObjectType.{ObjectType}
-use Rattle.delf_model.specs.declared.schema.EdgeType.{EdgeType}
 use Rattle.schema_lang.specs.declared.line.Word.{Word}
 use Rattle.schema_lang.specs.declared.line.Word.TheVariants.{Plain, Payload}
 use Rattle.schema_lang.specs.declared.row.Row.{Row}

@@ -1,5 +1,5 @@
 -- Which lines spell which words, apart from how a line is read.
-use Rattle.std.specs.Prelude.{◌≡◌, ◌≢◌, ℕ, ◌+◌, ◌*◌, Bool, true, false, Some, List, [], ◌∷◌, ◌++◌, ◌==◌, ◌||◌, ◌⊎◌}
+use Rattle.std.specs.Prelude.{◌≡◌, ◌≢◌, ℕ, ◌+◌, ◌*◌, true, false, Some, List, [], ◌∷◌, ◌++◌, ◌==◌, ◌||◌, ◌⊎◌}
 use Rattle.schema_lang.specs.declared.line.Word.{Word}
 use Rattle.schema_lang.specs.declared.line.Word.TheVariants.{Plain, Payload}
 use Rattle.schema_lang.specs.Words.{is_blank, stands_for_itself, hex_digit}
