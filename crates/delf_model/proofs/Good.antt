@@ -42,7 +42,8 @@ good_start rules = record {
   fresh = λ birth later. omega arith;
   one_place = λ birth. omega arith;
   handled = tt;
-  once = λ job id birth. omega arith }
+  once = λ job id birth. omega arith;
+}
 
 pub good_step : (s : State) (e : Entry) → Good s → is_legal s e ≡ true → Good (step s e)
 good_step s e good legal = record {
@@ -55,7 +56,8 @@ good_step s e good legal = record {
   fresh = fresh_step s e legal good.fresh;
   one_place = one_place_step s e legal good.fresh good.one_place;
   handled = handled_step s e.moment e.what (allowed_of s e legal) good.handled;
-  once = once_step s e.moment e.what (allowed_of s e legal) good.idle good.handled good.one_place good.once }
+  once = once_step s e.moment e.what (allowed_of s e legal) good.idle good.handled good.one_place good.once;
+}
 
 -- the state after a legal history is good, and so is that after each part of it
 pub good_after : (rules : RuleSet) (h : List Entry) → Legal rules h → Good (after rules h)
@@ -74,9 +76,11 @@ owners_push rules h e id legal next =
 pub leaves_by_owner : (rules : RuleSet) (h : List Entry) → Legal rules h → LeavesByOwner rules h
 leaves_by_owner rules h legal = record {
   objects = each_step Good good_step ObjectsLeave (λ s e good line. objects_leave s e line) rules h (good_start rules) legal;
-  edges = each_step Good good_step EdgesLeave (λ s e good line. edges_leave s e line) rules h (good_start rules) legal }
+  edges = each_step Good good_step EdgesLeave (λ s e good line. edges_leave s e line) rules h (good_start rules) legal;
+}
 
 pub keeps_room : (rules : RuleSet) (h : List Entry) → Legal rules h → KeepsRoom rules h
 keeps_room rules h legal = record {
   within = λ p within. (good_at rules h p legal).within;
-  quiet = each_step Good good_step RaisesNot (λ s e good line quiet. no_rise s e.moment e.what line good.owned_stand good.ends good.idle quiet) rules h (good_start rules) legal }
+  quiet = each_step Good good_step RaisesNot (λ s e good line quiet. no_rise s e.moment e.what line good.owned_stand good.ends good.idle quiet) rules h (good_start rules) legal;
+}

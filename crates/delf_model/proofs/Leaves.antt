@@ -40,9 +40,9 @@ stands_put g row id birth free stood =
 rewritten_birth : (target at size : ℕ) (row : ObjectRow) → (rewritten target at size row).birth ≡ row.birth
 rewritten_birth target at size row = by_hit (eqb row.id target)
   where
-  by_hit : (hit : Bool) → (cond hit (record row { at = at; size = size }) row).birth ≡ row.birth
-  by_hit true = refl
-  by_hit false = refl
+    by_hit : (hit : Bool) → (cond hit (record row { at = at; size = size }) row).birth ≡ row.birth
+    by_hit true = refl
+    by_hit false = refl
 
 born_rewritten : (birth target at size : ℕ) (o : Option ObjectRow) → is_born_at birth (option_map (rewritten target at size) o) ≡ is_born_at birth o
 born_rewritten birth target at size None = refl
@@ -126,7 +126,7 @@ hit_edge_gone false o stood gone = absurd (false≢true (sym gone ∙ stood))
 pub edge_stands_taken : (g : Graph) (gone key : EdgeKey) → edge_stands g key ≡ true → edge_stands (changed g (TakesEdge gone)) key ≡ false → gone ≡ key
 edge_stands_taken g gone key stood left =
     same_key_is gone key (hit_edge_gone (same_key gone key) (edge_at g key) stood
-      (sym (ap (λ (o : Option EdgeRow). is_some o) (find-filter_edge gone g.edges key)) ∙ left))
+    (sym (ap (λ (o : Option EdgeRow). is_some o) (find-filter_edge gone g.edges key)) ∙ left))
 
 pub edge_stands_put_item : (s : State) (it : Item) (cause : Option Cause) (key : EdgeKey) → edge_stands s.graph key ≡ true →
     edge_stands (changed s.graph (put_unless cause it)) key ≡ true
@@ -152,7 +152,7 @@ edges_by s moment (Cut job edge from to) line key stood left =
     let same : key_of edge from to ≡ key = edge_stands_taken s.graph (key_of edge from to) key stood left in
     ByCut job (ap (λ (k : EdgeKey). Cut job k.edge k.from k.to) same)
     (subst (λ (k : EdgeKey). (is_owned_by s job k.from || is_owned_by s job k.to) ≡ true) same
-      (and_parts (edge_stands s.graph (key_of edge from to)) (is_owned_by s job from || is_owned_by s job to) line).1)
+    (and_parts (edge_stands s.graph (key_of edge from to)) (is_owned_by s job from || is_owned_by s job to) line).1)
 edges_by s moment (Erase job gone) line key stood left = contradicts _ stood left
 edges_by s moment (Put job i) line key stood left = contradicts _ (edge_stands_put_change s (slice_get s.items i) key stood) left
 edges_by s moment (Purge job) line key stood left = contradicts _ stood left

@@ -37,12 +37,12 @@ numbered_of s e legal = (and_parts (leb s.moment e.moment && leb e.moment greate
 pub tagged_of : (s : State) (e : Entry) → is_legal s e ≡ true → is_tag s (tag_of e.what) ≡ true
 tagged_of s e legal =
     (and_parts (leb s.moment e.moment && leb e.moment greatest_moment) (is_tag s (tag_of e.what))
-      (and_parts (leb s.moment e.moment && leb e.moment greatest_moment && is_tag s (tag_of e.what)) (is_numbered s.rules e.what) (front_of s e legal)).0).1
+    (and_parts (leb s.moment e.moment && leb e.moment greatest_moment && is_tag s (tag_of e.what)) (is_numbered s.rules e.what) (front_of s e legal)).0).1
 
 moments_of : (s : State) (e : Entry) → is_legal s e ≡ true → (leb s.moment e.moment && leb e.moment greatest_moment) ≡ true
 moments_of s e legal =
     (and_parts (leb s.moment e.moment && leb e.moment greatest_moment) (is_tag s (tag_of e.what))
-      (and_parts (leb s.moment e.moment && leb e.moment greatest_moment && is_tag s (tag_of e.what)) (is_numbered s.rules e.what) (front_of s e legal)).0).0
+    (and_parts (leb s.moment e.moment && leb e.moment greatest_moment && is_tag s (tag_of e.what)) (is_numbered s.rules e.what) (front_of s e legal)).0).0
 
 pub moment_not_before : (s : State) (e : Entry) → is_legal s e ≡ true → s.moment ≤ e.moment
 moment_not_before s e legal = leb-true s.moment e.moment (and_parts (leb s.moment e.moment) (leb e.moment greatest_moment) (moments_of s e legal)).0

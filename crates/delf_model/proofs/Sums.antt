@@ -80,8 +80,13 @@ pub sum_handled : (f : Logged → ℕ) (items : List Logged) (i : ℕ) (how : Ha
 sum_handled f [] i how logged at = absurd (cc at)
 sum_handled f (x ∷ xs) zero how logged at =
     let same : x ≡ logged = cc in
-    omega (arith, sum_by-cons f (record { item = x.item; handled = Some how }) xs, sum_by-cons f x xs, ap f same,
-      ap (λ (l : Logged). f (record { item = l.item; handled = Some how })) same)
+    omega (
+      arith,
+      sum_by-cons f (record { item = x.item; handled = Some how }) xs,
+      sum_by-cons f x xs,
+      ap f same,
+      ap (λ (l : Logged). f (record { item = l.item; handled = Some how })) same,
+    )
 sum_handled f (x ∷ xs) (suc i) how logged at =
     omega (arith, sum_by-cons f x (handled_at xs i how), sum_by-cons f x xs, sum_handled f xs i how logged at)
 
@@ -90,12 +95,12 @@ pub count_found : {A : Type 0} (p q : A → Bool) (row : A) (xs : List A) → fi
 count_found p q row [] found one = absurd (cc found)
 count_found p q row (x ∷ xs) found one = by_hit (p x) refl found (count_found p q row xs)
   where
-  by_hit : (hit : Bool) → p x ≡ hit → cond hit (Some x) (find p xs) ≡ Some row → (find p xs ≡ Some row → q row ≡ true → 0 < count_by q xs) → 0 < count_by q (x ∷ xs)
-  by_hit true is here IH =
-      let same : x ≡ row = cc in
-      let counts : cond (q x) 1 0 ≡ 1 = ap (λ (b : Bool). one_of b) (ap q same ∙ one) in
-      omega (arith, sum_by-cons (λ y. cond (q y) 1 0) x xs, counts)
-    where
-    one_of : Bool → ℕ
-    one_of b = cond b 1 0
-  by_hit false is here IH = omega (arith, sum_by-cons (λ y. cond (q y) 1 0) x xs, IH here one)
+    by_hit : (hit : Bool) → p x ≡ hit → cond hit (Some x) (find p xs) ≡ Some row → (find p xs ≡ Some row → q row ≡ true → 0 < count_by q xs) → 0 < count_by q (x ∷ xs)
+    by_hit true is here IH =
+        let same : x ≡ row = cc in
+        let counts : cond (q x) 1 0 ≡ 1 = ap (λ (b : Bool). one_of b) (ap q same ∙ one) in
+        omega (arith, sum_by-cons (λ y. cond (q y) 1 0) x xs, counts)
+      where
+        one_of : Bool → ℕ
+        one_of b = cond b 1 0
+    by_hit false is here IH = omega (arith, sum_by-cons (λ y. cond (q y) 1 0) x xs, IH here one)

@@ -13,6 +13,8 @@ mod numbering;
 mod rows;
 mod rules;
 mod schema;
+#[cfg(test)]
+mod tests;
 pub mod worked;
 
 pub use bytes::Bytes;
