@@ -11,7 +11,7 @@ use Rattle.entry_codec.specs.declared.limits.TheConstants.{LARGEST_PAYLOAD}
 use Rattle.entry_codec.specs.Field.{Kind, Moment, Field, spelled, AreFields}
 use Rattle.entry_codec.specs.EntryHead.{entry_kind, what_fields, entry_head, named_size, HasPayload, IsEntry, IsWhatHead, IsEntryHead}
 use Rattle.entry_codec.specs.Reading.{number_at, fields_at, fields_of, entry_sorts, ReadsWhat, IsWhatRead, IsEntryRead}
-use Rattle.entry_codec.proofs.Fields.{IsBytes, Takes, sorts, some_parts, number_takes, number_again, fields_take, fields_again, number_prefix, spelled_prefix}
+use Rattle.entry_codec.proofs.Fields.{IsBytes, Takes, sorts, some_parts, number_takes, number_again, fields_take, fields_again, number_prefix, spelled_prefix, number_of}
 
 pub sorts-what_fields : (w : What) → sorts (what_fields w) ≡ entry_sorts (entry_kind w)
 sorts-what_fields (Create tag type id size) = refl
@@ -148,10 +148,6 @@ entry_found head size moment rest kind bytes what fits first second h =
 
 -- ---- one spelling
 
--- the number of a field
-number_of : List Field → ℕ → ℕ
-number_of fs i = (get_or fs i (record { sort = Kind; number = 0 })).number
-
 -- what an entry notes, by its kind, its fields and the size of its payload
 remade : ℕ → List Field → ℕ → What
 remade kind fs size =
@@ -172,7 +168,7 @@ remade kind fs size =
     ∷ []) kind (Purge 0)
 
 remade-fields : (w : What) (size : ℕ) → HasPayload w size → remade (entry_kind w) (what_fields w) size ≡ w
-unfolding remade number_of
+unfolding remade
 remade-fields (Create tag type id size) n h = ap (λ (t : ℕ). Create tag type id t) h
 remade-fields (Update tag id size) n h = ap (λ (t : ℕ). Update tag id t) h
 remade-fields (Link tag edge from to size) n h = ap (λ (t : ℕ). Link tag edge from to t) h
@@ -185,7 +181,6 @@ remade-fields (Erase job id) n h = refl
 remade-fields (Put job item) n h = refl
 remade-fields (Purge job) n h = refl
 
--- no head begins another
 pub record SameEntryHead (a b : Entry) (x y : List ℕ) : Type 0 where
   pub moment : a.moment ≡ b.moment
   pub kind : entry_kind a.what ≡ entry_kind b.what
@@ -202,6 +197,12 @@ entry_head_prefix a b x y ha hb e =
     sorts-what_fields a.what ∙ ap entry_sorts kinds.0 ∙ sym (sorts-what_fields b.what) in
     let rest = spelled_prefix (what_fields a.what) (what_fields b.what) x y same_sorts ha.fields.1.1 hb.fields.1.1 kinds.1 in
     record { moment = moments.0; kind = kinds.0; fields = rest.0; after = rest.1 }
+
+pub same_entry_head : (a b : Entry) (x y : List ℕ) → SameEntryHead a b x y → entry_head a ≡ entry_head b
+same_entry_head a b x y s =
+    ap (λ (m : ℕ). to_be_bytes w64 m ++ (to_be_bytes w8 (entry_kind a.what) ++ spelled (what_fields a.what))) s.moment
+    ∙ ap (λ (k : ℕ). to_be_bytes w64 b.moment ++ (to_be_bytes w8 k ++ spelled (what_fields a.what))) s.kind
+    ∙ ap (λ (fs : List Field). to_be_bytes w64 b.moment ++ (to_be_bytes w8 (entry_kind b.what) ++ spelled fs)) s.fields
 
 -- a head with a payload is that of one entry
 pub one_entry : (a b : Entry) (head : List ℕ) (size : ℕ) → IsEntryHead a head size → IsEntryHead b head size → a ≡ b

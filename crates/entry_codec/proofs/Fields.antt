@@ -208,3 +208,7 @@ spelled_prefix (f ∷ fs) (g ∷ gs) x y s hf hg e =
     let others = spelled_prefix fs gs x y others_sorts hf.1 hg.1 first.1 in
     let head : f ≡ g = ap (λ (t : Sort × ℕ). record { sort = t.0; number = t.1 }) (let pair : (f.sort, f.number) ≡ (g.sort, g.number) = cc in pair) in
     (cc, others.1)
+
+-- the number of a field, by its place
+abbrev pub number_of : List Field → ℕ → ℕ
+number_of fs i = (get_or fs i (record { sort = Kind; number = 0 })).number

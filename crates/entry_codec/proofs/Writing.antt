@@ -7,7 +7,7 @@ pub take-written : (at len n : ℕ) (out part text rest : List ℕ) → at ≤ l
 take-written at len n out part text rest le length_text e =
     let after : List ℕ = rest ++ post_of at len out in
     let regrouped : put_mid at len out part ≡ (take at out ++ text) ++ after =
-        ap (λ (p : List ℕ). take at out ++ (p ++ post_of at len out)) e
-        ∙ ap (λ (p : List ℕ). take at out ++ p) (append_assoc text rest (post_of at len out))
-        ∙ sym (append_assoc (take at out) text after) in
+    ap (λ (p : List ℕ). take at out ++ (p ++ post_of at len out)) e
+    ∙ ap (λ (p : List ℕ). take at out ++ p) (append_assoc text rest (post_of at len out))
+    ∙ sym (append_assoc (take at out) text after) in
     ap (take (at + n)) regrouped ∙ take_at (take at out ++ text) after (at + n) (omega (arith, length-append (take at out) text, length-take at out))

@@ -37,6 +37,15 @@ pub record IsItem (i : Item) : Type 0 where
   pub fields : AreFields (item_fields i)
   pub size : item_size i ≤ LARGEST_PAYLOAD
 
+-- behind the kind, these bytes and a payload of this size are those of the item and the digest
+pub record IsRowHead (i : Item) (digest : List ℕ) (kind : ℕ) (bytes : List ℕ) (size : ℕ) : Type 0 where
+  pub same_kind : item_kind i ≡ kind
+  pub fields : AreFields (row_fields i)
+  pub bounded : item_size i ≤ LARGEST_PAYLOAD
+  pub payload : size ≡ item_size i
+  pub digest_length : length digest ≡ 32
+  pub spelling : bytes ≡ spelled (row_fields i) ++ digest
+
 -- the item and the digest are those of this head with a payload of this size
 pub record IsItemHead (i : Item) (digest : List ℕ) (head : List ℕ) (size : ℕ) : Type 0 where
   pub item : IsItem i

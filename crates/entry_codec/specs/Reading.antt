@@ -7,7 +7,7 @@ use Rattle.delf_model.specs.declared.rows.Item.{Item}
 use Rattle.entry_codec.specs.declared.limits.TheConstants.{LAST_MOMENT, LAST_ID, TYPE_COUNT}
 use Rattle.entry_codec.specs.Field.{Sort, Kind, TypeNumber, Word, Moment, Id, Due, width_of, Field}
 use Rattle.entry_codec.specs.EntryHead.{entry_kind, what_fields, HasPayload, IsWhatHead, IsEntryHead}
-use Rattle.entry_codec.specs.ItemHead.{item_kind, row_fields, item_size}
+use Rattle.entry_codec.specs.ItemHead.{item_kind, row_fields, item_size, IsRowHead, IsItemHead}
 
 infixl 10 ◌>>=◌
 abbrev pub ◌>>=◌ : {A B : Type 0} → Option A → (A → Option B) → Option B
@@ -96,3 +96,13 @@ ReadsRow kind bytes size None = fields_at 32 (item_sorts kind) bytes ≡ None
 ReadsRow kind bytes size (Some found) =
     (item_kind found.0 ≡ kind) × (item_size found.0 ≡ size)
     × (fields_at 32 (item_sorts kind) bytes ≡ Some (row_fields found.0, found.1))
+
+-- the answer is what these bytes and a payload of this size spell behind the kind
+abbrev pub IsRowRead : ℕ → List ℕ → ℕ → Option (Item × List ℕ) → Type 0
+IsRowRead kind bytes size None = (item : Item) (digest : List ℕ) → IsRowHead item digest kind bytes size → ⊥
+IsRowRead kind bytes size (Some found) = IsRowHead found.0 found.1 kind bytes size
+
+-- the answer is the item and the digest that the head and a payload of this size spell
+abbrev pub IsItemRead : List ℕ → ℕ → Option (Item × List ℕ) → Type 0
+IsItemRead head size None = (item : Item) (digest : List ℕ) → IsItemHead item digest head size → ⊥
+IsItemRead head size (Some found) = IsItemHead found.0 found.1 head size

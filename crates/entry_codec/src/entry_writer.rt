@@ -78,3 +78,37 @@ fn put_what(out: &mut [u8], at: usize, what: &What) -> usize
         What::Purge { job } => put_word(out, at, job.0),
     }
 }
+
+fn kind_of(what: &What) -> u8
+    ensures { result ≡ entry_kind what.now }
+{
+    match what {
+        What::Create { .. } => 1,
+        What::Update { .. } => 2,
+        What::Link { .. } => 3,
+        What::Unlink { .. } => 4,
+        What::Delete { .. } => 5,
+        What::Restore { .. } => 6,
+        What::Expire { .. } => 7,
+        What::Cut { .. } => 8,
+        What::Erase { .. } => 9,
+        What::Put { .. } => 10,
+        What::Purge { .. } => 11,
+    }
+}
+
+/// Writes the head of the entry to the front of `out`, and answers its length in bytes, which is at most 38.
+/// What stands behind it in `out` is left open.
+pub fn write_entry(entry: &Entry, out: &mut [u8; 128]) -> u16
+    requires moment { entry.now.moment ≤ LAST_MOMENT }
+    requires bounded { IsBounded entry.now.what }
+    ensures length { result ≡ length (entry_head entry.now) }
+    ensures head { take result out.new ≡ entry_head entry.now }
+    ensures within { result ≤ 38 }
+    // So the head is read again as this entry.
+    ensures entry { IsEntry entry.now }
+{
+    let at = put_long(out, 0, entry.moment);
+    let at = put_byte(out, at, kind_of(&entry.what));
+    put_what(out, at, &entry.what) as u16
+}
