@@ -1,5 +1,5 @@
 -- What is read behind the moment and the kind, and the entry as a whole.
-use Rattle.std.proofs.Common.{◌≡◌, ℕ, ◌+◌, ◌<◌, ◌≤◌, List, [], ◌∷◌, ◌++◌, length, get_or, Option, Some, None, refl, sym, ap, subst, ◌∙◌, append_assoc, arith}
+use Rattle.std.proofs.Common.{◌≡◌, ℕ, ◌<◌, ◌≤◌, List, [], ◌∷◌, ◌++◌, get_or, Option, Some, None, refl, sym, ap, subst, ◌∙◌, arith}
 use Rattle.std.specs.Prelude.{IfSome, IfNone}
 use Rattle.std.specs.Int.{w8, w64, to_be_bytes}
 use Rattle.std.proofs.lemmas.List.{append-nil, nil_from_length}
@@ -8,10 +8,10 @@ use Rattle.delf_model.specs.declared.entry.Tag.{Tag}
 use Rattle.delf_model.specs.declared.entry.What.{What}
 use Rattle.delf_model.specs.declared.entry.What.TheVariants.{Create, Update, Link, Unlink, Delete, Restore, Expire, Cut, Erase, Put, Purge}
 use Rattle.entry_codec.specs.declared.limits.TheConstants.{LARGEST_PAYLOAD}
-use Rattle.entry_codec.specs.Field.{Kind, Moment, Field, spelled, AreFields}
+use Rattle.entry_codec.specs.Field.{Kind, Moment, Field, spelled}
 use Rattle.entry_codec.specs.EntryHead.{entry_kind, what_fields, entry_head, named_size, HasPayload, IsEntry, IsWhatHead, IsEntryHead}
 use Rattle.entry_codec.specs.Reading.{number_at, fields_at, fields_of, entry_sorts, ReadsWhat, IsWhatRead, IsEntryRead}
-use Rattle.entry_codec.proofs.Fields.{IsBytes, Takes, sorts, some_parts, number_takes, number_again, fields_take, fields_again, number_prefix, spelled_prefix, number_of}
+use Rattle.entry_codec.proofs.Fields.{IsBytes, sorts, some_parts, number_takes, number_again, fields_take, fields_again, number_prefix, spelled_prefix, number_of}
 
 pub sorts-what_fields : (w : What) → sorts (what_fields w) ≡ entry_sorts (entry_kind w)
 sorts-what_fields (Create tag type id size) = refl

@@ -1,6 +1,5 @@
 -- Fields that are read are those that were written, and fields that were written are read again.
-use Rattle.std.proofs.Common.{◌≡◌, ℕ, zero, suc, ◌+◌, ◌^◌, ◌<◌, ◌≤◌, Bool, true, false, cond, ltb, eqb, ◌&&◌, List, [], ◌∷◌, ◌++◌, length, get_or, take, drop, Option, Some, None, refl, sym, ap, subst, ◌∙◌, append_assoc, arith, inl, inr}
-use Rattle.std.specs.Prelude.{map}
+use Rattle.std.proofs.Common.{◌≡◌, ℕ, ◌+◌, ◌^◌, ◌<◌, ◌≤◌, Bool, true, false, cond, ltb, eqb, List, [], ◌∷◌, ◌++◌, length, get_or, take, drop, Option, Some, None, refl, sym, ap, subst, ◌∙◌, append_assoc, arith, inl, inr}
 use Rattle.std.specs.Int.{Width, w8, w32, w64, byte_len, from_be_bytes, to_be_bytes}
 use Rattle.std.proofs.lemmas.Bool.{cases_lt, ltb-true, ltb-false, leb-true, le-ltb, lt-ltb, le-leb, eqb-true, and_parts, and_from}
 use Rattle.std.proofs.Common.{eq-eqb}
@@ -190,6 +189,10 @@ fields_again (f ∷ fs) rest len h e =
     let regrouped : (text ++ spelled fs) ++ rest ≡ text ++ (spelled fs ++ rest) = append_assoc text (spelled fs) rest in
     ap (fields_at len (sorts (f ∷ fs))) regrouped ∙ rw (number_again f.sort f.number (spelled fs ++ rest) h.0, fields_again fs rest len h.1 e) refl
 
+same_field : (f g : Field) → f.sort ≡ g.sort → f.number ≡ g.number → f ≡ g
+same_field f g s n =
+    ap (λ (t : Sort). record { sort = t; number = f.number }) s ∙ ap (λ (t : ℕ). record { sort = g.sort; number = t }) n
+
 -- no spelling of fields begins another of the same sorts
 pub spelled_prefix : (fs gs : List Field) (x y : List ℕ) → sorts fs ≡ sorts gs → AreFields fs → AreFields gs → spelled fs ++ x ≡ spelled gs ++ y → (fs ≡ gs) × (x ≡ y)
 spelled_prefix [] [] x y s hf hg e = (refl, e)
@@ -206,7 +209,7 @@ spelled_prefix (f ∷ fs) (g ∷ gs) x y s hf hg e =
     left ∙ ap (λ (t : Sort). text t g.number ++ (spelled gs ++ y)) (sym same_sort) in
     let first = number_prefix f.sort f.number g.number (spelled fs ++ x) (spelled gs ++ y) hf.0 is moved in
     let others = spelled_prefix fs gs x y others_sorts hf.1 hg.1 first.1 in
-    let head : f ≡ g = ap (λ (t : Sort × ℕ). record { sort = t.0; number = t.1 }) (let pair : (f.sort, f.number) ≡ (g.sort, g.number) = cc in pair) in
+    let head : f ≡ g = same_field f g same_sort first.0 in
     (cc, others.1)
 
 -- the number of a field, by its place

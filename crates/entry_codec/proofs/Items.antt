@@ -1,5 +1,5 @@
 -- What is read behind the kind of an item, and the item as a whole.
-use Rattle.std.proofs.Common.{◌≡◌, ℕ, ◌+◌, ◌<◌, ◌≤◌, List, [], ◌∷◌, ◌++◌, length, get_or, Option, Some, None, refl, sym, ap, subst, ◌∙◌, append_assoc, arith}
+use Rattle.std.proofs.Common.{◌≡◌, ℕ, ◌<◌, ◌≤◌, List, [], ◌∷◌, ◌++◌, length, get_or, Option, Some, None, refl, sym, ap, ◌∙◌, append_assoc, arith}
 use Rattle.std.specs.Prelude.{IfSome, IfNone}
 use Rattle.std.specs.Int.{w8, to_be_bytes}
 use Rattle.std.proofs.lemmas.List.{append-nil}
@@ -9,10 +9,10 @@ use Rattle.delf_model.specs.declared.rows.ObjectRow.{ObjectRow}
 use Rattle.delf_model.specs.declared.rows.Item.{Item}
 use Rattle.delf_model.specs.declared.rows.Item.TheVariants.{Object, Edge}
 use Rattle.entry_codec.specs.declared.limits.TheConstants.{LARGEST_PAYLOAD}
-use Rattle.entry_codec.specs.Field.{Kind, Field, spelled, AreFields}
+use Rattle.entry_codec.specs.Field.{Kind, Field, spelled}
 use Rattle.entry_codec.specs.ItemHead.{item_kind, row_fields, item_head, item_size, IsItem, IsRowHead, IsItemHead}
 use Rattle.entry_codec.specs.Reading.{number_at, fields_at, item_sorts, ReadsRow, IsRowRead, IsItemRead}
-use Rattle.entry_codec.proofs.Fields.{IsBytes, Takes, sorts, some_parts, number_takes, number_again, fields_take, fields_again, number_prefix, spelled_prefix, number_of}
+use Rattle.entry_codec.proofs.Fields.{IsBytes, sorts, some_parts, number_takes, number_again, fields_take, fields_again, number_prefix, spelled_prefix, number_of}
 
 sorts-row_fields : (i : Item) → sorts (row_fields i) ≡ item_sorts (item_kind i)
 sorts-row_fields (Object job row) = refl

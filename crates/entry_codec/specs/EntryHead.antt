@@ -3,7 +3,7 @@ use Rattle.std.specs.Prelude.{◌≡◌, ℕ, ◌<◌, ◌≤◌, List, [], ◌�
 use Rattle.delf_model.specs.declared.entry.Entry.{Entry}
 use Rattle.delf_model.specs.declared.entry.What.{What}
 use Rattle.delf_model.specs.declared.entry.What.TheVariants.{Create, Update, Link, Unlink, Delete, Restore, Expire, Cut, Erase, Put, Purge}
-use Rattle.entry_codec.specs.declared.limits.TheConstants.{LAST_MOMENT, TYPE_COUNT, LARGEST_PAYLOAD}
+use Rattle.entry_codec.specs.declared.limits.TheConstants.{TYPE_COUNT, LARGEST_PAYLOAD}
 use Rattle.entry_codec.specs.Field.{Field, kind, type_number, word, moment, object_id, spelled, AreFields}
 
 abbrev pub entry_kind : What → ℕ

@@ -1,8 +1,8 @@
 -- The head of an erased item: its kind, the fields of that kind, and the digest of its payload.
-use Rattle.std.specs.Prelude.{◌≡◌, ℕ, ◌<◌, ◌≤◌, List, [], ◌∷◌, ◌++◌, length}
+use Rattle.std.specs.Prelude.{◌≡◌, ℕ, ◌≤◌, List, [], ◌∷◌, ◌++◌, length}
 use Rattle.delf_model.specs.declared.rows.Item.{Item}
 use Rattle.delf_model.specs.declared.rows.Item.TheVariants.{Object, Edge}
-use Rattle.entry_codec.specs.declared.limits.TheConstants.{TYPE_COUNT, LARGEST_PAYLOAD}
+use Rattle.entry_codec.specs.declared.limits.TheConstants.{LARGEST_PAYLOAD}
 use Rattle.entry_codec.specs.Field.{Field, kind, type_number, word, object_id, due, spelled, AreFields}
 
 abbrev pub item_kind : Item → ℕ

@@ -1,5 +1,5 @@
 -- Reading fields from the front of the bytes.
-use Rattle.std.specs.Prelude.{◌≡◌, ℕ, ◌<◌, Bool, true, ◌&&◌, List, [], ◌∷◌, length, take, drop, get_or, Option, Some, None, nat_lt, nat_le, ◌==◌, if◌then◌else◌}
+use Rattle.std.specs.Prelude.{◌≡◌, ℕ, Bool, true, ◌&&◌, List, [], ◌∷◌, length, take, drop, get_or, Option, Some, None, nat_lt, nat_le, ◌==◌, if◌then◌else◌}
 use Rattle.std.specs.Int.{byte_len, from_be_bytes}
 use Rattle.delf_model.specs.declared.entry.Entry.{Entry}
 use Rattle.delf_model.specs.declared.entry.What.{What}

@@ -1,4 +1,4 @@
-use Rattle.std.proofs.Common.{◌-◌, length, drop, refl, arith}
+use Rattle.std.proofs.Common.{◌-◌, length, refl, arith}
 use Rattle.std.specs.Int.{w64, to_be_bytes}
 use Rattle.entry_codec.proofs.Writing.{take-written}
 use Rattle.entry_codec.proofs.field_writer.put_long.Goals as goal
