@@ -7,3 +7,6 @@ mod first_fault;
 
 pub use checked::Checked;
 pub use first_fault::{CheckFault, Fault, check};
+
+#[cfg(test)]
+mod tests;
