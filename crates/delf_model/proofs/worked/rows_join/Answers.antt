@@ -10,4 +10,9 @@ begins_with n (Some (x ∷ xs)) = eqb x n
 
 pub returns-clause-damaged : goal.returns-clause-damaged
 returns-clause-damaged c = record {
-  logged = _; there = refl; needed = refl; carried = refl; differs = λ same. false≢true (ap (begins_with 97) same) }
+  logged = _;
+  there = refl;
+  needed = refl;
+  carried = refl;
+  differs = λ same. false≢true (ap (begins_with 97) same);
+}
