@@ -1,6 +1,6 @@
 -- Both ends of each edge stand, after every legal entry; and what the judgement of a put says.
-use Rattle.std.proofs.Common.{◌≡◌, ℕ, ◌+◌, ◌≤◌, ◌<◌, Bool, true, false, cond, not, ◌&&◌, ◌||◌, eqb, List, [], ◌∷◌, Option, Some, None, refl, sym, ap, ◌∙◌, subst, arith, inl, inr, ◌⊎◌}
-use Rattle.std.proofs.lemmas.Bool.{and_parts, and_from, eqb-true, eq-eqb, false≢true}
+use Rattle.std.proofs.Common.{◌≡◌, ℕ, Bool, true, false, cond, not, ◌||◌, eqb, List, [], ◌∷◌, Option, Some, None, refl, sym, ap, ◌∙◌, subst, arith, inl, inr, ◌⊎◌}
+use Rattle.std.proofs.lemmas.Bool.{and_parts, false≢true}
 use Rattle.std.specs.Prelude.{find, is_some, slice_get}
 use Rattle.std.proofs.lemmas.Bool.Decides.{nat_tests}
 use Rattle.std.specs.List.{list_any}
@@ -12,16 +12,14 @@ use Rattle.delf_model.specs.declared.rows.Item.{Item}
 use Rattle.delf_model.specs.declared.rows.Item.TheVariants as item
 use Rattle.delf_model.specs.declared.call.Cause.{Cause}
 use Rattle.delf_model.specs.declared.call.Cause.TheVariants as cause
-use Rattle.delf_model.specs.declared.entry.Entry.{Entry}
-use Rattle.delf_model.specs.declared.entry.Tag.{Tag}
 use Rattle.delf_model.specs.declared.entry.What.{What}
 use Rattle.delf_model.specs.declared.entry.What.TheVariants.{Create, Update, Link, Unlink, Delete, Restore, Expire, Cut, Erase, Put, Purge}
-use Rattle.delf_model.specs.Graph.{Graph, Change, PutsObject, TakesObject, RewritesObject, PutsEdge, TakesEdge, changed, has_id, has_key, same_key, object_at, edge_at, edge_stands, stands, is_born_at, touches, touches_row, is_touched, rewritten}
-use Rattle.delf_model.specs.State.{State, Logged, step, owner, graph_after, first_of_two, key_of, judged, put_change, put_unless, new_object, new_edge, end_cause, end_condemned, key_taken, is_owned_by}
+use Rattle.delf_model.specs.Graph.{Graph, PutsObject, TakesObject, RewritesObject, PutsEdge, TakesEdge, changed, has_key, same_key, object_at, edge_at, edge_stands, stands, is_born_at, touches, touches_row, is_touched, rewritten}
+use Rattle.delf_model.specs.State.{State, Logged, owner, graph_after, first_of_two, key_of, judged, put_change, put_unless, new_object, new_edge, end_cause, end_condemned, key_taken, is_owned_by}
 use Rattle.delf_model.specs.Store.{EndsStand}
-use Rattle.delf_model.specs.Legal.{is_legal, is_allowed, refusals}
+use Rattle.delf_model.specs.Legal.{is_allowed, refusals}
 use Rattle.delf_model.proofs.Graphs.{same_key_is, find-put_object, find-filter_object, find-rewritten, find-put_edge, find-filter_edge}
-use Rattle.delf_model.proofs.Lines.{none_of, allowed_of, there}
+use Rattle.delf_model.proofs.Lines.{none_of, there}
 
 -- what the judgement of a put says where it is put back
 

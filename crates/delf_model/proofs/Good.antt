@@ -1,14 +1,12 @@
 -- What every legal history keeps, and what follows at each of its positions.
-use Rattle.std.proofs.Common.{◌≡◌, ℕ, zero, suc, ◌+◌, ◌≤◌, ◌<◌, Bool, true, false, cond, List, [], ◌∷◌, ◌++◌, length, take, Option, Some, None, refl, sym, ap, ◌∙◌, subst, arith}
-use Rattle.std.specs.Prelude.{is_some, slice_get}
+use Rattle.std.proofs.Common.{◌≡◌, ℕ, ◌≤◌, true, List, [], ◌∷◌, ◌++◌, take, ap, ◌∙◌, arith}
 use Rattle.delf_model.specs.declared.entry.Entry.{Entry}
-use Rattle.delf_model.specs.declared.entry.What.{What}
 use Rattle.delf_model.specs.RuleSet.{RuleSet}
-use Rattle.delf_model.specs.State.{State, start, step, run, after, owner}
+use Rattle.delf_model.specs.State.{State, start, step, after, owner}
 use Rattle.delf_model.specs.Store.{EndsStand}
-use Rattle.delf_model.specs.Legal.{is_legal, is_legal_from, Legal, EachStep, room, room_limit, greatest_moment}
+use Rattle.delf_model.specs.Legal.{is_legal, Legal, room, room_limit, greatest_moment}
 use Rattle.delf_model.specs.Sound.{LeavesByOwner, ObjectsLeave, EdgesLeave, KeepsRoom, RaisesNot}
-use Rattle.delf_model.proofs.Runs.{each_step, good_run, good_take, after_push, legal_rest}
+use Rattle.delf_model.proofs.Runs.{each_step, good_run, good_take, after_push}
 use Rattle.delf_model.proofs.Lines.{allowed_of, moment_within}
 use Rattle.delf_model.proofs.Leaves.{objects_leave, edges_leave}
 use Rattle.delf_model.proofs.Owners.{OwnedStand, owned_stand_step}

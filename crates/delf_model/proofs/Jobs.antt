@@ -1,16 +1,15 @@
 -- Jobs after an entry: their rows, which are restored, and that a restored job owns nothing.
-use Rattle.std.proofs.Common.{◌≡◌, ℕ, zero, suc, ◌+◌, ◌≤◌, ◌<◌, Bool, true, false, cond, not, ◌&&◌, ◌||◌, eqb, List, [], ◌∷◌, ◌++◌, Option, Some, None, refl, sym, ap, ◌∙◌, subst, arith, inl, inr, ◌⊎◌}
-use Rattle.std.proofs.lemmas.Bool.{and_parts, and_from, eqb-true, eq-eqb, false≢true}
+use Rattle.std.proofs.Common.{◌≡◌, ℕ, ◌<◌, Bool, true, false, cond, eqb, List, [], ◌∷◌, ◌++◌, Option, Some, None, refl, sym, ap, ◌∙◌, subst, arith, inl, inr, ◌⊎◌}
+use Rattle.std.proofs.lemmas.Bool.{and_parts, eqb-true, eq-eqb, false≢true}
 use Rattle.std.specs.Prelude.{find, map, is_some, count_by, option_and_then}
 use Rattle.std.specs.Option.{option_map}
 use Rattle.delf_model.specs.declared.ids.JobName.{JobName}
 use Rattle.delf_model.specs.declared.ids.JobName.TheVariants.{Named, Expiry}
 use Rattle.delf_model.specs.declared.entry.Entry.{Entry}
-use Rattle.delf_model.specs.declared.entry.Tag.{Tag}
 use Rattle.delf_model.specs.declared.entry.What.{What}
 use Rattle.delf_model.specs.declared.entry.What.TheVariants.{Create, Update, Link, Unlink, Delete, Restore, Expire, Cut, Erase, Put, Purge}
-use Rattle.delf_model.specs.State.{State, JobRow, Owners, step, owner, owner_in, owned, owns_of, owner_of_pair, is_pair_of, is_job, job_row, starts_at, is_restored, is_restored_row, jobs_after, new_job, started_job, restored_at, purged_if, erased_at, start_of, unlink_start, first_of_two, root_of_start, root_owner}
-use Rattle.delf_model.specs.Legal.{is_legal, is_allowed, refusals, pending, is_named_so}
+use Rattle.delf_model.specs.State.{State, JobRow, Owners, step, owner, owner_in, owned, owns_of, owner_of_pair, is_pair_of, is_job, job_row, starts_at, is_restored, is_restored_row, jobs_after, new_job, started_job, restored_at, purged_if, erased_at, start_of, unlink_start, first_of_two}
+use Rattle.delf_model.specs.Legal.{is_legal, is_allowed, refusals, is_named_so}
 use Rattle.delf_model.proofs.Lines.{none_of, allowed_of, owns_none}
 use Rattle.delf_model.proofs.Owners.{owner_from}
 use Rattle.delf_model.proofs.Sums.{count_found}

@@ -1,7 +1,7 @@
 -- What leaves the graph, and by which entry.
-use Rattle.std.proofs.Common.{◌≡◌, ℕ, ◌+◌, ◌≤◌, ◌<◌, Bool, true, false, cond, not, ◌&&◌, ◌||◌, eqb, List, [], ◌∷◌, Option, Some, None, refl, sym, ap, ◌∙◌, subst, arith}
-use Rattle.std.proofs.lemmas.Bool.{and_parts, and_from, eqb-true, eq-eqb, ne_eqb, false≢true, cases_Bool, or_cases}
-use Rattle.std.specs.Prelude.{is_some, is_none, slice_get, find, option_and_then}
+use Rattle.std.proofs.Common.{◌≡◌, ℕ, Bool, true, false, cond, ◌||◌, eqb, Option, Some, None, refl, sym, ap, ◌∙◌, subst}
+use Rattle.std.proofs.lemmas.Bool.{and_parts, eqb-true, false≢true}
+use Rattle.std.specs.Prelude.{is_some, slice_get}
 use Rattle.std.specs.Option.{option_map}
 use Rattle.delf_model.specs.declared.rows.ObjectRow.{ObjectRow}
 use Rattle.delf_model.specs.declared.rows.EdgeKey.{EdgeKey}
@@ -10,15 +10,14 @@ use Rattle.delf_model.specs.declared.rows.Item.{Item}
 use Rattle.delf_model.specs.declared.rows.Item.TheVariants as item
 use Rattle.delf_model.specs.declared.call.Cause.{Cause}
 use Rattle.delf_model.specs.declared.entry.Entry.{Entry}
-use Rattle.delf_model.specs.declared.entry.Tag.{Tag}
 use Rattle.delf_model.specs.declared.entry.What.{What}
 use Rattle.delf_model.specs.declared.entry.What.TheVariants.{Create, Update, Link, Unlink, Delete, Restore, Expire, Cut, Erase, Put, Purge}
-use Rattle.delf_model.specs.Graph.{Graph, Change, Same, PutsObject, TakesObject, RewritesObject, PutsEdge, TakesEdge, changed, has_id, object_at, edge_at, edge_stands, stands, is_born_at, same_key, rewritten}
-use Rattle.delf_model.specs.State.{State, Logged, step, owner, is_owned_by, is_job, judged, taken, put_change, put_unless, put_of_item, first_of_two, key_of, new_object, new_edge, end_cause, key_taken, start_of}
-use Rattle.delf_model.specs.Legal.{is_legal, is_allowed, refused, refusals, name_taken, too_long, edge_taken}
-use Rattle.delf_model.specs.Sound.{ObjectsLeave, EdgesLeave, TakesEdgeAway, ByUnlink, ByCut}
+use Rattle.delf_model.specs.Graph.{Graph, PutsObject, TakesObject, RewritesObject, PutsEdge, TakesEdge, changed, object_at, edge_at, edge_stands, stands, is_born_at, same_key, rewritten}
+use Rattle.delf_model.specs.State.{State, Logged, step, owner, is_owned_by, is_job, judged, taken, put_change, put_unless, key_of, new_object, new_edge}
+use Rattle.delf_model.specs.Legal.{is_legal, is_allowed, refusals}
+use Rattle.delf_model.specs.Sound.{ObjectsLeave, EdgesLeave, ByUnlink, ByCut}
 use Rattle.delf_model.proofs.Graphs.{find-put_object, find-filter_object, find-rewritten, find-put_edge, find-filter_edge, same_key_is}
-use Rattle.delf_model.proofs.Lines.{NoneOf, none_of, allowed_of, name_free, key_free}
+use Rattle.delf_model.proofs.Lines.{none_of, allowed_of, name_free}
 
 -- a fact about an option that holds of both of its cases
 born_found : (birth : ℕ) (o p : Option ObjectRow) → o ≡ p → is_born_at birth o ≡ is_born_at birth p

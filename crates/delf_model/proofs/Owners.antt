@@ -1,19 +1,16 @@
 -- The owner map after one entry.
-use Rattle.std.proofs.Common.{◌≡◌, ℕ, ◌+◌, ◌≤◌, ◌<◌, Bool, true, false, cond, not, ◌&&◌, ◌||◌, eqb, ltb, List, [], ◌∷◌, ◌++◌, Option, Some, None, refl, sym, ap, ◌∙◌, subst, arith, inl, inr, ◌⊎◌}
-use Rattle.std.proofs.lemmas.Bool.Decides.{nat_tests}
-use Rattle.std.proofs.lemmas.Bool.{and_parts, and_from, eqb-true, eq-eqb, false≢true}
-use Rattle.std.proofs.lemmas.Grind.{common_steps}
-use Rattle.std.specs.Prelude.{find, filter, map, is_some, is_none}
+use Rattle.std.proofs.Common.{◌≡◌, ℕ, Bool, true, false, cond, eqb, List, [], ◌∷◌, Option, Some, None, refl, sym, ap, ◌∙◌, subst, inl, inr, ◌⊎◌}
+use Rattle.std.proofs.lemmas.Bool.{eqb-true, eq-eqb}
+use Rattle.std.specs.Prelude.{find, map, is_some}
 use Rattle.std.specs.Prelude.{option_and_then}
 use Rattle.delf_model.specs.declared.rows.ObjectRow.{ObjectRow}
 use Rattle.delf_model.specs.declared.rows.EdgeKey.{EdgeKey}
 use Rattle.delf_model.specs.declared.rows.EdgeRow.{EdgeRow}
 use Rattle.delf_model.specs.declared.entry.Entry.{Entry}
-use Rattle.delf_model.specs.declared.entry.What.{What}
 use Rattle.delf_model.specs.RuleSet.{RuleSet}
-use Rattle.delf_model.specs.Graph.{Graph, has_id, has_key, same_key, object_at, edge_at, edge_stands, stands, is_born_at}
+use Rattle.delf_model.specs.Graph.{Graph, has_id, has_key, same_key, object_at, stands, is_born_at}
 use Rattle.delf_model.proofs.Graphs.{same_key_is}
-use Rattle.delf_model.specs.State.{State, Owners, step, owner, owner_in, owns_of, owner_of_pair, graph_after, root_of_start, start_of, root_owner, first_of_two, next_owner, owned_row, owners_after, first_passed, passed_owner, condemns}
+use Rattle.delf_model.specs.State.{State, Owners, step, owner, owner_in, owns_of, owner_of_pair, graph_after, root_of_start, start_of, root_owner, first_of_two, next_owner, first_passed, passed_owner}
 
 -- the owner in a list that gives each row its owner
 pub owner_in-map : (f : ObjectRow → Option ℕ) (rows : List ObjectRow) (id : ℕ) →

@@ -1,9 +1,9 @@
 -- Where an object with a birth is: in the graph, or in one item that is not handled. It is never in two places, so no
 -- job logs it twice.
-use Rattle.std.proofs.Common.{◌≡◌, ℕ, zero, suc, ◌+◌, ◌≤◌, ◌<◌, Bool, true, false, cond, not, ◌&&◌, ◌||◌, eqb, List, [], ◌∷◌, ◌++◌, Option, Some, None, refl, sym, ap, ◌∙◌, subst, arith, inl, inr, ◌⊎◌}
-use Rattle.std.proofs.lemmas.Bool.{and_parts, and_from, eqb-true, eq-eqb, ne_eqb, false≢true}
+use Rattle.std.proofs.Common.{◌≡◌, ℕ, zero, suc, ◌+◌, ◌≤◌, ◌<◌, Bool, true, false, cond, ◌&&◌, eqb, List, [], ◌∷◌, ◌++◌, Option, Some, None, refl, sym, ap, ◌∙◌, subst, arith}
+use Rattle.std.proofs.lemmas.Bool.{and_parts, and_from, eqb-true, false≢true}
 use Rattle.std.proofs.lemmas.List.Sums.{sum_by-cons, sum_by-append}
-use Rattle.std.specs.Prelude.{find, filter, map, sum_by, count_by, is_some, is_none, slice_get}
+use Rattle.std.specs.Prelude.{filter, sum_by, count_by, is_some, is_none, slice_get}
 use Rattle.std.specs.Option.{option_map}
 use Rattle.delf_model.specs.declared.rows.ObjectRow.{ObjectRow}
 use Rattle.delf_model.specs.declared.rows.EdgeRow.{EdgeRow}
@@ -11,16 +11,14 @@ use Rattle.delf_model.specs.declared.rows.Item.{Item}
 use Rattle.delf_model.specs.declared.rows.Item.TheVariants as item
 use Rattle.delf_model.specs.declared.call.Cause.{Cause}
 use Rattle.delf_model.specs.declared.entry.Entry.{Entry}
-use Rattle.delf_model.specs.declared.entry.Tag.{Tag}
 use Rattle.delf_model.specs.declared.entry.What.{What}
 use Rattle.delf_model.specs.declared.entry.What.TheVariants.{Create, Update, Link, Unlink, Delete, Restore, Expire, Cut, Erase, Put, Purge}
-use Rattle.delf_model.specs.Graph.{Graph, has_id, object_at, edge_at, stands, put_object, rewritten, is_other_object, changed}
-use Rattle.delf_model.specs.State.{State, Logged, Handled, JobRow, step, owner, job_row, starts_at, is_restored, is_restored_row, is_open, job_of, jobs_after, items_after, key_of, edge_item, object_item, handled_at, outcome, unhandled, judged, put_change, put_unless, is_owned_by, birth_of, restored_at, new_object}
-use Rattle.delf_model.specs.Legal.{is_legal, is_allowed, may_put, ends_handled, is_end_item, is_named_so}
+use Rattle.delf_model.specs.Graph.{Graph, has_id, object_at, edge_at, rewritten, is_other_object, changed}
+use Rattle.delf_model.specs.State.{State, Logged, Handled, JobRow, step, job_row, is_restored, is_restored_row, is_open, job_of, jobs_after, items_after, key_of, edge_item, object_item, handled_at, outcome, unhandled, judged, put_change, put_unless, is_owned_by, birth_of, restored_at, new_object}
+use Rattle.delf_model.specs.Legal.{is_legal, is_allowed, may_put, ends_handled, is_end_item}
 use Rattle.delf_model.specs.Sound.{is_erasure_of, erasures}
 use Rattle.delf_model.proofs.Lines.{allowed_of}
 use Rattle.delf_model.proofs.Leaves.{owner_is}
-use Rattle.delf_model.proofs.Owners.{OwnedStand, found_id}
 use Rattle.delf_model.proofs.Jobs.{Idle, restored_same, is_restore_of, job_row-restored}
 use Rattle.delf_model.proofs.Sums.{sum_put_object, sum_filter, sum_without, sum_no_more, sum_map, sum_handled, count_found}
 

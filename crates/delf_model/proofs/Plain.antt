@@ -1,14 +1,11 @@
 -- The owner map as code changes it: only starts, cuts and erasures do.
-use Rattle.std.proofs.Common.{◌≡◌, ℕ, ◌+◌, ◌≤◌, ◌<◌, Bool, true, false, cond, not, ◌&&◌, ◌||◌, eqb, List, [], ◌∷◌, ◌++◌, Option, Some, None, refl, sym, ap, ◌∙◌, subst, arith, inl, inr, ◌⊎◌}
-use Rattle.std.proofs.lemmas.Bool.{and_parts, and_from, eqb-true, eq-eqb, ne_eqb, false≢true, or_cases}
-use Rattle.std.specs.Prelude.{find, filter, map, is_some, is_none, slice_get}
+use Rattle.std.proofs.Common.{◌≡◌, ℕ, Bool, true, false, cond, not, ◌&&◌, ◌||◌, eqb, List, [], ◌∷◌, Option, Some, None, refl, sym, ap, ◌∙◌, subst}
+use Rattle.std.proofs.lemmas.Bool.{and_parts, eqb-true, eq-eqb, false≢true}
+use Rattle.std.specs.Prelude.{find, is_some, is_none, slice_get}
 use Rattle.std.specs.List.{list_any}
 use Rattle.delf_model.specs.declared.rows.ObjectRow.{ObjectRow}
 use Rattle.delf_model.specs.declared.rows.EdgeKey.{EdgeKey}
 use Rattle.delf_model.specs.declared.rows.EdgeRow.{EdgeRow}
-use Rattle.delf_model.specs.declared.rows.Item.{Item}
-use Rattle.delf_model.specs.declared.rows.Item.TheVariants as item
-use Rattle.delf_model.specs.declared.call.Cause.{Cause}
 use Rattle.delf_model.specs.declared.ids.JobName.{JobName}
 use Rattle.delf_model.specs.declared.ids.JobName.TheVariants.{Named}
 use Rattle.delf_model.specs.declared.entry.Entry.{Entry}
@@ -16,14 +13,14 @@ use Rattle.delf_model.specs.declared.entry.Tag.{Tag}
 use Rattle.delf_model.specs.declared.entry.What.{What}
 use Rattle.delf_model.specs.declared.entry.What.TheVariants.{Create, Update, Link, Unlink, Delete, Restore, Expire, Cut, Erase, Put, Purge}
 use Rattle.delf_model.specs.RuleSet.{RuleSet}
-use Rattle.delf_model.specs.Graph.{Graph, Change, TakesEdge, TakesObject, PutsObject, changed, has_id, has_key, same_key, object_at, edge_at, edge_stands, stands, is_born_at}
-use Rattle.delf_model.specs.State.{State, Logged, Owners, step, run, after, owner, owner_in, is_owned_by, is_job, graph_after, root_of_start, start_of, root_owner, unlink_start, first_of_two, first_passed, passed_owner, condemns, key_of, judged, put_change, put_unless, new_object, new_edge}
+use Rattle.delf_model.specs.Graph.{Graph, TakesEdge, changed, has_key, same_key, object_at, edge_at, edge_stands, stands, is_born_at}
+use Rattle.delf_model.specs.State.{State, Logged, Owners, step, owner, owner_in, is_owned_by, is_job, graph_after, root_of_start, start_of, root_owner, unlink_start, first_of_two, first_passed, passed_owner, condemns, key_of, judged, put_change, new_edge}
 use Rattle.delf_model.specs.Store.{EndsStand}
-use Rattle.delf_model.specs.Legal.{is_legal, is_allowed, refused, refusals, is_due_row}
+use Rattle.delf_model.specs.Legal.{is_legal, refusals, is_due_row}
 use Rattle.delf_model.proofs.Graphs.{same_key_is, same_key_refl, same_key_sym, find-filter_edge, find-filter_object}
-use Rattle.delf_model.proofs.Lines.{none_of, allowed_of, there, free, name_free, edge_there}
-use Rattle.delf_model.proofs.Leaves.{objects_leave, edge_stands_put, edge_stands_put_item, owner_is, stands_put_change}
-use Rattle.delf_model.proofs.Owners.{OwnedStand, owner_kept, owner_new, owner_gone, passed_to, found_id, stands_of}
+use Rattle.delf_model.proofs.Lines.{none_of, allowed_of, there, free, edge_there}
+use Rattle.delf_model.proofs.Leaves.{objects_leave, edge_stands_put, edge_stands_put_item}
+use Rattle.delf_model.proofs.Owners.{OwnedStand, owner_kept, owner_new, owner_gone, passed_to, stands_of}
 
 -- the owner after an entry, by the kind of the entry
 abbrev pub plain_owner : State → What → ℕ → Option ℕ

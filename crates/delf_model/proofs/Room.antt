@@ -1,9 +1,9 @@
 -- The room: no unlink, delete or step raises it, and calls are refused where it would pass the limit.
-use Rattle.std.proofs.Common.{◌≡◌, ℕ, zero, suc, ◌+◌, ◌≤◌, ◌<◌, Bool, true, false, cond, not, ◌&&◌, ◌||◌, eqb, List, [], ◌∷◌, ◌++◌, Option, Some, None, refl, sym, ap, ◌∙◌, subst, arith, inl, inr, ◌⊎◌}
+use Rattle.std.proofs.Common.{◌≡◌, ℕ, ◌+◌, ◌≤◌, Bool, true, false, cond, not, ◌&&◌, ◌||◌, eqb, List, [], ◌∷◌, ◌++◌, Option, Some, None, refl, sym, ap, ◌∙◌, subst, arith, inl, inr}
 use Rattle.std.proofs.lemmas.Bool.Decides.{nat_tests}
-use Rattle.std.proofs.lemmas.Bool.{and_parts, and_from, eqb-true, eq-eqb, false≢true, or_cases}
+use Rattle.std.proofs.lemmas.Bool.{and_parts, eqb-true, eq-eqb, false≢true, or_cases}
 use Rattle.std.proofs.lemmas.List.Sums.{sum_by-cons, sum_by-append}
-use Rattle.std.specs.Prelude.{find, filter, map, sum_by, is_some, is_none, slice_get}
+use Rattle.std.specs.Prelude.{filter, map, sum_by, is_some, is_none, slice_get}
 use Rattle.delf_model.specs.declared.rows.ObjectRow.{ObjectRow}
 use Rattle.delf_model.specs.declared.rows.EdgeKey.{EdgeKey}
 use Rattle.delf_model.specs.declared.rows.EdgeRow.{EdgeRow}
@@ -12,22 +12,20 @@ use Rattle.delf_model.specs.declared.rows.Item.TheVariants as item
 use Rattle.delf_model.specs.declared.call.Cause.{Cause}
 use Rattle.delf_model.specs.declared.ids.JobName.{JobName}
 use Rattle.delf_model.specs.declared.ids.JobName.TheVariants.{Named, Expiry}
-use Rattle.delf_model.specs.declared.entry.Entry.{Entry}
 use Rattle.delf_model.specs.declared.entry.Tag.{Tag}
 use Rattle.delf_model.specs.declared.entry.What.{What}
 use Rattle.delf_model.specs.declared.entry.What.TheVariants.{Create, Update, Link, Unlink, Delete, Restore, Expire, Cut, Erase, Put, Purge}
-use Rattle.delf_model.specs.Graph.{Graph, has_id, has_key, object_at, edge_at, edge_stands, put_object, put_edge, is_other_object, is_other_edge, changed}
-use Rattle.delf_model.specs.State.{State, Logged, Handled, JobRow, step, owner, owner_in, job_row, starts_at, is_restored, is_open, is_object_item, job_of, jobs_after, items_after, new_job, started_job, purged_if, erased_at, unlink_start, key_of, edge_item, object_item, handled_at, outcome, unhandled, judged, put_change, put_unless, is_owned_by, birth_of, owned, left}
-use Rattle.delf_model.specs.Legal.{is_legal, is_allowed, refusals, refused, room, room_limit, owed, owed_for_object, owed_for_edge, owed_for_job, owed_for_item, may_put, may_purge, is_named_so, is_due_row, ends_handled, window_passed}
+use Rattle.delf_model.specs.Graph.{Graph, has_id, has_key, object_at, edge_at, edge_stands, is_other_object, is_other_edge, changed}
+use Rattle.delf_model.specs.State.{State, Logged, JobRow, step, owner, job_row, starts_at, is_restored, is_open, is_object_item, job_of, jobs_after, new_job, started_job, purged_if, erased_at, unlink_start, key_of, edge_item, object_item, outcome, unhandled, judged, put_change, put_unless, is_owned_by, birth_of, owned, left}
+use Rattle.delf_model.specs.Legal.{is_legal, refusals, room, room_limit, owed_for_object, owed_for_edge, owed_for_job, owed_for_item, may_put, may_purge, is_named_so, is_due_row, ends_handled, window_passed}
 use Rattle.delf_model.specs.Sound.{never_raises}
 use Rattle.delf_model.specs.Store.{EndsStand}
-use Rattle.delf_model.proofs.Graphs.{find-put_object}
 use Rattle.delf_model.proofs.Lines.{NoneOf, none_of, allowed_of, there, free, edge_there, room_left}
 use Rattle.delf_model.proofs.Leaves.{owner_is}
 use Rattle.delf_model.proofs.Owners.{OwnedStand, found_id}
 use Rattle.delf_model.proofs.Plain.{plain_owner, owner_plain}
-use Rattle.delf_model.proofs.Jobs.{Idle, restored_same, is_restore_of}
-use Rattle.delf_model.proofs.Sums.{sum_put_object, sum_put_edge, sum_filter, sum_without, sum_no_more, sum_falls, sum_map, sum_handled}
+use Rattle.delf_model.proofs.Jobs.{Idle, restored_same}
+use Rattle.delf_model.proofs.Sums.{sum_put_object, sum_put_edge, sum_without, sum_no_more, sum_falls, sum_map, sum_handled}
 
 -- the four sums of what is owed
 

@@ -1,5 +1,5 @@
 -- The damaged item is the user: its seal is that of another payload.
-use Rattle.std.proofs.Common.{◌≡◌, ℕ, Bool, true, false, eqb, List, [], ◌∷◌, Option, Some, None, refl, ap}
+use Rattle.std.proofs.Common.{ℕ, Bool, false, eqb, List, [], ◌∷◌, Option, Some, None, refl, ap}
 use Rattle.std.proofs.lemmas.Bool.{false≢true}
 use Rattle.delf_model.proofs.worked.rows_join.Goals as goal
 
