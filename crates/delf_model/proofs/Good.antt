@@ -1,14 +1,12 @@
 -- What every legal history keeps, and what follows at each of its positions.
-use Rattle.std.proofs.Common.{◌≡◌, ℕ, zero, suc, ◌+◌, ◌≤◌, ◌<◌, Bool, true, false, cond, List, [], ◌∷◌, ◌++◌, length, take, Option, Some, None, refl, sym, ap, ◌∙◌, subst, arith}
-use Rattle.std.specs.Prelude.{is_some, slice_get}
+use Rattle.std.proofs.Common.{◌≡◌, ℕ, ◌≤◌, true, List, [], ◌∷◌, ◌++◌, take, ap, ◌∙◌, arith}
 use Rattle.delf_model.specs.declared.entry.Entry.{Entry}
-use Rattle.delf_model.specs.declared.entry.What.{What}
 use Rattle.delf_model.specs.RuleSet.{RuleSet}
-use Rattle.delf_model.specs.State.{State, start, step, run, after, owner}
+use Rattle.delf_model.specs.State.{State, start, step, after, owner}
 use Rattle.delf_model.specs.Store.{EndsStand}
-use Rattle.delf_model.specs.Legal.{is_legal, is_legal_from, Legal, EachStep, room, room_limit, greatest_moment}
+use Rattle.delf_model.specs.Legal.{is_legal, Legal, room, room_limit, greatest_moment}
 use Rattle.delf_model.specs.Sound.{LeavesByOwner, ObjectsLeave, EdgesLeave, KeepsRoom, RaisesNot}
-use Rattle.delf_model.proofs.Runs.{each_step, good_run, good_take, after_push, legal_rest}
+use Rattle.delf_model.proofs.Runs.{each_step, good_run, good_take, after_push}
 use Rattle.delf_model.proofs.Lines.{allowed_of, moment_within}
 use Rattle.delf_model.proofs.Leaves.{objects_leave, edges_leave}
 use Rattle.delf_model.proofs.Owners.{OwnedStand, owned_stand_step}
@@ -42,7 +40,8 @@ good_start rules = record {
   fresh = λ birth later. omega arith;
   one_place = λ birth. omega arith;
   handled = tt;
-  once = λ job id birth. omega arith }
+  once = λ job id birth. omega arith;
+}
 
 pub good_step : (s : State) (e : Entry) → Good s → is_legal s e ≡ true → Good (step s e)
 good_step s e good legal = record {
@@ -55,7 +54,8 @@ good_step s e good legal = record {
   fresh = fresh_step s e legal good.fresh;
   one_place = one_place_step s e legal good.fresh good.one_place;
   handled = handled_step s e.moment e.what (allowed_of s e legal) good.handled;
-  once = once_step s e.moment e.what (allowed_of s e legal) good.idle good.handled good.one_place good.once }
+  once = once_step s e.moment e.what (allowed_of s e legal) good.idle good.handled good.one_place good.once;
+}
 
 -- the state after a legal history is good, and so is that after each part of it
 pub good_after : (rules : RuleSet) (h : List Entry) → Legal rules h → Good (after rules h)
@@ -74,9 +74,11 @@ owners_push rules h e id legal next =
 pub leaves_by_owner : (rules : RuleSet) (h : List Entry) → Legal rules h → LeavesByOwner rules h
 leaves_by_owner rules h legal = record {
   objects = each_step Good good_step ObjectsLeave (λ s e good line. objects_leave s e line) rules h (good_start rules) legal;
-  edges = each_step Good good_step EdgesLeave (λ s e good line. edges_leave s e line) rules h (good_start rules) legal }
+  edges = each_step Good good_step EdgesLeave (λ s e good line. edges_leave s e line) rules h (good_start rules) legal;
+}
 
 pub keeps_room : (rules : RuleSet) (h : List Entry) → Legal rules h → KeepsRoom rules h
 keeps_room rules h legal = record {
   within = λ p within. (good_at rules h p legal).within;
-  quiet = each_step Good good_step RaisesNot (λ s e good line quiet. no_rise s e.moment e.what line good.owned_stand good.ends good.idle quiet) rules h (good_start rules) legal }
+  quiet = each_step Good good_step RaisesNot (λ s e good line quiet. no_rise s e.moment e.what line good.owned_stand good.ends good.idle quiet) rules h (good_start rules) legal;
+}

@@ -45,7 +45,7 @@ is_some_along : (o p : Option ℕ) → p ≡ o → IsSome o → IsSome p
 is_some_along o p e h = subst (λ q. IsSome q) (sym e) h
 
 -- an edge type of a route has a number
-edge_within : (rules : RuleSet) (kind edge : ℕ) (rest : List ℕ) → IsRoute rules kind (edge ∷ rest) → edge < length rules.edges
+pub edge_within : (rules : RuleSet) (kind edge : ℕ) (rest : List ℕ) → IsRoute rules kind (edge ∷ rest) → edge < length rules.edges
 edge_within rules kind edge rest route =
     elim (cases_lt edge (length rules.edges)) [
       | inl h ↦ h

@@ -13,6 +13,9 @@ mod numbering;
 mod rows;
 mod rules;
 mod schema;
+mod spellable;
+#[cfg(test)]
+mod tests;
 pub mod worked;
 
 pub use bytes::Bytes;
@@ -25,3 +28,4 @@ pub use name::{Name, NameFault, is_name_byte, is_name_text};
 pub use rows::{EdgeKey, EdgeRow, Item, ObjectRow};
 pub use rules::{Broken, JudgeFault, Rules, RulesFault};
 pub use schema::{EdgeRule, EdgeShape, EdgeType, ObjectRule, ObjectType, Schema};
+pub use spellable::is_spellable;

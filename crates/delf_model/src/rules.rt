@@ -116,6 +116,7 @@ impl Rules {
     pub fn objects_len(&self) -> usize
         ensures value { result ≡ length self.now.objects }
         ensures below { result ≤ 64 }
+        ensures rules { KeepsRules self.now }
     {
         self.numbering.objects.len()
     }
