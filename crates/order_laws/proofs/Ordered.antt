@@ -26,7 +26,6 @@ use Rattle.std.proofs.lemmas.List.Sums.{sum_by-cons}
 use Rattle.std.specs.Option.{option_map}
 use Rattle.delf_model.proofs.Owners.{owner_from, found_id, found_key, stands_of, next_at}
 use Rattle.delf_model.proofs.Plain.{plain_owner, owner_plain}
-use Rattle.delf_model.proofs.Ends.{born_there}
 use Rattle.delf_model.proofs.Jobs.{job_row-started, job_row-restored, job_row-purged, job_row-erased}
 use Rattle.delf_model.proofs.Sums.{count_found}
 use Rattle.delf_model.proofs.Places.{one_if, waits, has_birth, is_object_born, places, EachItem, each_append, each_weaken, each_handled, each_at, HandledOf, may_put_of}
@@ -51,39 +50,39 @@ put_above : (low : ℕ) (row : ObjectRow) (xs : List ObjectRow) → low < row.id
 put_above low row [] less above = (less, tt)
 put_above low row (x ∷ xs) less above = by_order (ltb row.id x.id) (eqb row.id x.id) (put_above low row xs less above.1)
   where
-  by_order : (before same : Bool) → Above low (put_object row xs) → Above low (cond before (row ∷ (x ∷ xs)) (cond same (row ∷ xs) (x ∷ put_object row xs)))
-  by_order true same IH = (less, above)
-  by_order false true IH = (less, above.1)
-  by_order false false IH = (above.0, IH)
+    by_order : (before same : Bool) → Above low (put_object row xs) → Above low (cond before (row ∷ (x ∷ xs)) (cond same (row ∷ xs) (x ∷ put_object row xs)))
+    by_order true same IH = (less, above)
+    by_order false true IH = (less, above.1)
+    by_order false false IH = (above.0, IH)
 
 put_rising : (row : ObjectRow) (xs : List ObjectRow) → Rising xs → Rising (put_object row xs)
 put_rising row [] rises = (tt, tt)
 put_rising row (x ∷ xs) rises = by_order (ltb row.id x.id) refl (eqb row.id x.id) refl (put_rising row xs rises.1)
   where
-  by_order : (before : Bool) → ltb row.id x.id ≡ before → (same : Bool) → eqb row.id x.id ≡ same → Rising (put_object row xs) →
-      Rising (cond before (row ∷ (x ∷ xs)) (cond same (row ∷ xs) (x ∷ put_object row xs)))
-  by_order true is same at IH = ((ltb-true row.id x.id is, above_less row.id x.id xs (ltb-true row.id x.id is) rises.0), rises)
-  by_order false is true at IH = (subst (λ (n : ℕ). Above n xs) (sym (eqb-true row.id x.id at)) rises.0, rises.1)
-  by_order false is false at IH = (put_above x.id row xs (later (ltb row.id x.id) (eqb row.id x.id) is at) rises.0, IH)
-    where
-    later : (b c : Bool) → ltb row.id x.id ≡ false → eqb row.id x.id ≡ false → x.id < row.id
-    later b c one two = grind (arith, nat_tests)
+    by_order : (before : Bool) → ltb row.id x.id ≡ before → (same : Bool) → eqb row.id x.id ≡ same → Rising (put_object row xs) →
+        Rising (cond before (row ∷ (x ∷ xs)) (cond same (row ∷ xs) (x ∷ put_object row xs)))
+    by_order true is same at IH = ((ltb-true row.id x.id is, above_less row.id x.id xs (ltb-true row.id x.id is) rises.0), rises)
+    by_order false is true at IH = (subst (λ (n : ℕ). Above n xs) (sym (eqb-true row.id x.id at)) rises.0, rises.1)
+    by_order false is false at IH = (put_above x.id row xs (later (ltb row.id x.id) (eqb row.id x.id) is at) rises.0, IH)
+      where
+        later : (b c : Bool) → ltb row.id x.id ≡ false → eqb row.id x.id ≡ false → x.id < row.id
+        later b c one two = grind (arith, nat_tests)
 
 filter_above : (low : ℕ) (p : ObjectRow → Bool) (xs : List ObjectRow) → Above low xs → Above low (filter p xs)
 filter_above low p [] above = tt
 filter_above low p (x ∷ xs) above = by_kept (p x) (filter_above low p xs above.1)
   where
-  by_kept : (b : Bool) → Above low (filter p xs) → Above low (cond b (x ∷ filter p xs) (filter p xs))
-  by_kept true IH = (above.0, IH)
-  by_kept false IH = IH
+    by_kept : (b : Bool) → Above low (filter p xs) → Above low (cond b (x ∷ filter p xs) (filter p xs))
+    by_kept true IH = (above.0, IH)
+    by_kept false IH = IH
 
 filter_rising : (p : ObjectRow → Bool) (xs : List ObjectRow) → Rising xs → Rising (filter p xs)
 filter_rising p [] rises = tt
 filter_rising p (x ∷ xs) rises = by_kept (p x) (filter_rising p xs rises.1)
   where
-  by_kept : (b : Bool) → Rising (filter p xs) → Rising (cond b (x ∷ filter p xs) (filter p xs))
-  by_kept true IH = (filter_above x.id p xs rises.0, IH)
-  by_kept false IH = IH
+    by_kept : (b : Bool) → Rising (filter p xs) → Rising (cond b (x ∷ filter p xs) (filter p xs))
+    by_kept true IH = (filter_above x.id p xs rises.0, IH)
+    by_kept false IH = IH
 
 map_above : (low : ℕ) (f : ObjectRow → ObjectRow) (xs : List ObjectRow) → ((row : ObjectRow) → (f row).id ≡ row.id) → Above low xs → Above low (map f xs)
 map_above low f [] same above = tt
@@ -96,9 +95,9 @@ map_rising f (x ∷ xs) same rises = (subst (λ (n : ℕ). Above n (map f xs)) (
 rewritten_id : (target at size : ℕ) (row : ObjectRow) → (rewritten target at size row).id ≡ row.id
 rewritten_id target at size row = by_hit (eqb row.id target)
   where
-  by_hit : (b : Bool) → (cond b (record row { at = at; size = size }) row).id ≡ row.id
-  by_hit true = refl
-  by_hit false = refl
+    by_hit : (b : Bool) → (cond b (record row { at = at; size = size }) row).id ≡ row.id
+    by_hit true = refl
+    by_hit false = refl
 
 put_item_rising : (s : State) (it : Item) (o : Option Cause) → Rising s.graph.objects → Rising (changed s.graph (put_unless o it)).objects
 put_item_rising s it (Some c) rises = rises
@@ -168,8 +167,8 @@ starts_map len f [] same rises = tt
 starts_map len f (x ∷ xs) same rises =
     (below _ _ (same x) rises.0, subst (λ (n : ℕ). StartsAbove n (map f xs)) (sym (same x)) (starts_map_above x.start f xs same rises.1), starts_map len f xs same rises.2)
   where
-  below : (a b : ℕ) → a ≡ b → b < len → a < len + 1
-  below a b one two = omega arith
+    below : (a b : ℕ) → a ≡ b → b < len → a < len + 1
+    below a b one two = omega arith
 
 starts_more : (len : ℕ) (xs : List JobRow) → StartsRising len xs → StartsRising (len + 1) xs
 starts_more len [] rises = tt
@@ -178,23 +177,23 @@ starts_more len (x ∷ xs) rises = (omega (arith, rises.0), rises.1, starts_more
 restored_start : (job position : ℕ) (row : JobRow) → (restored_at job position row).start ≡ row.start
 restored_start job position row = by_hit (eqb row.start job)
   where
-  by_hit : (b : Bool) → (cond b (record row { restored = Some position }) row).start ≡ row.start
-  by_hit true = refl
-  by_hit false = refl
+    by_hit : (b : Bool) → (cond b (record row { restored = Some position }) row).start ≡ row.start
+    by_hit true = refl
+    by_hit false = refl
 
 purged_start : (job : ℕ) (row : JobRow) → (purged_if job row).start ≡ row.start
 purged_start job row = by_hit (eqb row.start job)
   where
-  by_hit : (b : Bool) → (cond b (record row { purged = true }) row).start ≡ row.start
-  by_hit true = refl
-  by_hit false = refl
+    by_hit : (b : Bool) → (cond b (record row { purged = true }) row).start ≡ row.start
+    by_hit true = refl
+    by_hit false = refl
 
 erased_start : (job moment : ℕ) (row : JobRow) → (erased_at job moment row).start ≡ row.start
 erased_start job moment row = by_hit (eqb row.start job)
   where
-  by_hit : (b : Bool) → (cond b (record row { last = Some moment }) row).start ≡ row.start
-  by_hit true = refl
-  by_hit false = refl
+    by_hit : (b : Bool) → (cond b (record row { last = Some moment }) row).start ≡ row.start
+    by_hit true = refl
+    by_hit false = refl
 
 starts_step : (s : State) (moment : ℕ) (what : What) → StartsRising s.len s.jobs → StartsRising (s.len + 1) (jobs_after s moment what)
 starts_step s moment (Create tag kind id size) rises = starts_more s.len s.jobs rises
@@ -251,13 +250,15 @@ none_counted q [] none = tt
 none_counted q (x ∷ xs) none =
     (by_hit (q x) (here (one_if (q x)) (count_by q xs) (sum_by-cons (λ y. one_if (q y)) x xs) none), none_counted q xs (rest (one_if (q x)) (count_by q xs) (sum_by-cons (λ y. one_if (q y)) x xs) none))
   where
-  here : (a b : ℕ) → count_by q (x ∷ xs) ≡ a + b → count_by q (x ∷ xs) ≤ 0 → a ≤ 0
-  here a b one two = omega arith
-  rest : (a b : ℕ) → count_by q (x ∷ xs) ≡ a + b → count_by q (x ∷ xs) ≤ 0 → b ≤ 0
-  rest a b one two = omega arith
-  by_hit : (b : Bool) → one_if b ≤ 0 → b ≡ false
-  by_hit true less = absurd (omega arith)
-  by_hit false less = refl
+    here : (a b : ℕ) → count_by q (x ∷ xs) ≡ a + b → count_by q (x ∷ xs) ≤ 0 → a ≤ 0
+    here a b one two = omega arith
+
+    rest : (a b : ℕ) → count_by q (x ∷ xs) ≡ a + b → count_by q (x ∷ xs) ≤ 0 → b ≤ 0
+    rest a b one two = omega arith
+
+    by_hit : (b : Bool) → one_if b ≤ 0 → b ≡ false
+    by_hit true less = absurd (omega arith)
+    by_hit false less = refl
 
 each_both : (P Q : Logged → Type 0) (xs : List Logged) → EachItem P xs → EachItem Q xs → EachItem (λ x. P x × Q x) xs
 each_both P Q [] one two = tt
@@ -267,14 +268,15 @@ each_both P Q (x ∷ xs) one two = ((one.0, two.0), each_both P Q xs one.1 two.1
 quiet_end : (s : State) (job id birth : ℕ) → is_restored s.jobs job ≡ false → (l : Logged) → HandledOf s.jobs l → waits birth l ≡ false → is_end_item job id birth l.item ≡ false
 quiet_end s job id birth none l handled quiet = by_end (is_end_item job id birth l.item) refl
   where
-  by_handled : (h : Option Handled) → (is_some h ≡ true → is_restored s.jobs (job_of l.item) ≡ true) → is_restored s.jobs (job_of l.item) ≡ false → is_none h ≡ true
-  by_handled None was now = refl
-  by_handled (Some how) was now = absurd (false≢true (sym now ∙ was refl))
-  by_end : (b : Bool) → is_end_item job id birth l.item ≡ b → b ≡ false
-  by_end false is = refl
-  by_end true is =
-      let parts = end_parts job id birth l.item is in
-      absurd (false≢true (sym quiet ∙
+    by_handled : (h : Option Handled) → (is_some h ≡ true → is_restored s.jobs (job_of l.item) ≡ true) → is_restored s.jobs (job_of l.item) ≡ false → is_none h ≡ true
+    by_handled None was now = refl
+    by_handled (Some how) was now = absurd (false≢true (sym now ∙ was refl))
+
+    by_end : (b : Bool) → is_end_item job id birth l.item ≡ b → b ≡ false
+    by_end false is = refl
+    by_end true is =
+        let parts = end_parts job id birth l.item is in
+        absurd (false≢true (sym quiet ∙
         and_from (is_none l.handled) (is_object_born birth l.item)
         (by_handled l.handled handled (subst (λ (j : ℕ). is_restored s.jobs j ≡ false) (sym parts.0) none)) parts.1))
 
@@ -284,19 +286,19 @@ not_erased_row s job id row good none at =
     (λ l both. quiet_end s job id row.birth none l both.0 both.1)
     (each_both (HandledOf s.jobs) (λ l. waits row.birth l ≡ false) s.items good.handled (none_counted (waits row.birth) s.items none_waits))
   where
-  none_waits : count_by (waits row.birth) s.items ≤ 0
-  none_waits =
-      let stood : 0 < count_by (has_birth row.birth) s.graph.objects = count_found (has_id id) (has_birth row.birth) row s.graph.objects at (eq-eqb row.birth row.birth refl) in
-      let one : places s row.birth ≤ 1 = good.one_place row.birth in
-      omega arith
+    none_waits : count_by (waits row.birth) s.items ≤ 0
+    none_waits =
+        let stood : 0 < count_by (has_birth row.birth) s.graph.objects = count_found (has_id id) (has_birth row.birth) row s.graph.objects at (eq-eqb row.birth row.birth refl) in
+        let one : places s row.birth ≤ 1 = good.one_place row.birth in
+        omega arith
 
 not_erased : (s : State) (job id : ℕ) → Good s → is_restored s.jobs job ≡ false → is_some (object_at s.graph id) ≡ true → EachItem (λ x. is_end_item job id (birth_of s.graph id) x.item ≡ false) s.items
 not_erased s job id good none some = by_row (object_at s.graph id) refl
   where
-  by_row : (o : Option ObjectRow) → object_at s.graph id ≡ o → EachItem (λ x. is_end_item job id (birth_of s.graph id) x.item ≡ false) s.items
-  by_row None at = absurd (false≢true (sym (ap (λ (r : Option ObjectRow). is_some r) at) ∙ some))
-  by_row (Some row) at =
-      subst (λ (n : ℕ). EachItem (λ x. is_end_item job id n x.item ≡ false) s.items) (sym (ap birth_of_row at)) (not_erased_row s job id row good none at)
+    by_row : (o : Option ObjectRow) → object_at s.graph id ≡ o → EachItem (λ x. is_end_item job id (birth_of s.graph id) x.item ≡ false) s.items
+    by_row None at = absurd (false≢true (sym (ap (λ (r : Option ObjectRow). is_some r) at) ∙ some))
+    by_row (Some row) at =
+        subst (λ (n : ℕ). EachItem (λ x. is_end_item job id n x.item ≡ false) s.items) (sym (ap birth_of_row at)) (not_erased_row s job id row good none at)
 
 or_false : (a b : Bool) → a ≡ false → b ≡ false → (a || b) ≡ false
 or_false true b one two = one
@@ -305,9 +307,9 @@ or_false false b one two = two
 idle_job : (s : State) (job id : ℕ) → Good s → is_owned_by s job id ≡ true → is_restored s.jobs job ≡ false
 idle_job s job id good own = by_case (is_restored s.jobs job) refl
   where
-  by_case : (b : Bool) → is_restored s.jobs job ≡ b → b ≡ false
-  by_case true is = absurd (good.idle job id is (owner_is s job id own))
-  by_case false is = refl
+    by_case : (b : Bool) → is_restored s.jobs job ≡ b → b ≡ false
+    by_case true is = absurd (good.idle job id is (owner_is s job id own))
+    by_case false is = refl
 
 cut_apart : (s : State) (job : ℕ) (key : EdgeKey) → Good s → is_restored s.jobs job ≡ false → (o : Option EdgeRow) → edge_at s.graph key ≡ o → edge_stands s.graph key ≡ true →
     EndsApart s.items → EndsApart (s.items ++ edge_item s.graph job o)
@@ -317,9 +319,9 @@ cut_apart s job key good none (Some row) at stood apart =
     let there : edge_stands s.graph row.key ≡ true = subst (λ (k : EdgeKey). edge_stands s.graph k ≡ true) (sym same) stood in
     apart_push s.items (unhandled (item.Edge job row (birth_of s.graph row.key.from) (birth_of s.graph row.key.to)))
     (each_weaken (λ x. (is_end_item job row.key.from (birth_of s.graph row.key.from) x.item ≡ false) × (is_end_item job row.key.to (birth_of s.graph row.key.to) x.item ≡ false))
-      (λ x. is_end_of (item.Edge job row (birth_of s.graph row.key.from) (birth_of s.graph row.key.to)) x.item ≡ false) s.items
-      (λ x both. or_false _ _ both.0 both.1)
-      (each_both _ _ s.items (not_erased s job row.key.from good none (good.ends.source row.key there)) (not_erased s job row.key.to good none (good.ends.target row.key there))))
+    (λ x. is_end_of (item.Edge job row (birth_of s.graph row.key.from) (birth_of s.graph row.key.to)) x.item ≡ false) s.items
+    (λ x both. or_false _ _ both.0 both.1)
+    (each_both _ _ s.items (not_erased s job row.key.from good none (good.ends.source row.key there)) (not_erased s job row.key.to good none (good.ends.target row.key there))))
     apart
 
 erase_apart : (s : State) (job : ℕ) (o : Option ObjectRow) → is_some o ≡ true → EndsApart s.items → EndsApart (s.items ++ object_item job o)
@@ -393,38 +395,38 @@ owner_row s moment (Update tag x size) line have id job own = have id job own
 owner_row s moment (Link tag edge from to size) line have id job own = have id job own
 owner_row s moment (Unlink tag edge from to name) line have id job own =
     elim (hit_or_old (is_some (unlink_start s edge from to name) && eqb to id) s.len job (owner s id) own) [
-      inl new ↦
-        subst (λ (n : ℕ). is_some (job_row (s.jobs ++ started_job s.len (unlink_start s edge from to name)) n) ≡ true) (sym new.1)
-        (grown_new s.jobs s.len (unlink_start s edge from to name) (and_parts (is_some (unlink_start s edge from to name)) (eqb to id) new.0).0)
-    | inr old ↦ grown_stays s.jobs s.len (unlink_start s edge from to name) job (have id job old)
+      | inl new ↦
+          subst (λ (n : ℕ). is_some (job_row (s.jobs ++ started_job s.len (unlink_start s edge from to name)) n) ≡ true) (sym new.1)
+          (grown_new s.jobs s.len (unlink_start s edge from to name) (and_parts (is_some (unlink_start s edge from to name)) (eqb to id) new.0).0)
+      | inr old ↦ grown_stays s.jobs s.len (unlink_start s edge from to name) job (have id job old)
     ]
 owner_row s moment (Delete tag root name) line have id job own =
     elim (hit_or_old (eqb root id) s.len job (owner s id) own) [
-      inl new ↦ subst (λ (n : ℕ). is_some (job_row (s.jobs ++ started_job s.len (Some (root, Named name))) n) ≡ true) (sym new.1) (grown_new s.jobs s.len (Some (root, Named name)) refl)
-    | inr old ↦ grown_stays s.jobs s.len (Some (root, Named name)) job (have id job old)
+      | inl new ↦ subst (λ (n : ℕ). is_some (job_row (s.jobs ++ started_job s.len (Some (root, Named name))) n) ≡ true) (sym new.1) (grown_new s.jobs s.len (Some (root, Named name)) refl)
+      | inr old ↦ grown_stays s.jobs s.len (Some (root, Named name)) job (have id job old)
     ]
 owner_row s moment (Restore tag which) line have id job own = jobs_stay s moment (Restore tag which) job (have id job own)
 owner_row s moment (Expire root) line have id job own =
     elim (hit_or_old (eqb root id) s.len job (owner s id) own) [
-      inl new ↦ subst (λ (n : ℕ). is_some (job_row (s.jobs ++ started_job s.len (Some (root, Expiry root))) n) ≡ true) (sym new.1) (grown_new s.jobs s.len (Some (root, Expiry root)) refl)
-    | inr old ↦ grown_stays s.jobs s.len (Some (root, Expiry root)) job (have id job old)
+      | inl new ↦ subst (λ (n : ℕ). is_some (job_row (s.jobs ++ started_job s.len (Some (root, Expiry root))) n) ≡ true) (sym new.1) (grown_new s.jobs s.len (Some (root, Expiry root)) refl)
+      | inr old ↦ grown_stays s.jobs s.len (Some (root, Expiry root)) job (have id job old)
     ]
 owner_row s moment (Cut which edge from to) line have id job own =
     jobs_stay s moment (Cut which edge from to) job
     (elim (hit_or_old _ which job (owner s id) own) [
-      inl new ↦
-        subst (λ (n : ℕ). is_some (job_row s.jobs n) ≡ true) (sym new.1)
-        (elim (or_cases (is_owned_by s which from) (is_owned_by s which to) (and_parts (edge_stands s.graph (key_of edge from to)) (is_owned_by s which from || is_owned_by s which to) line).1) [
-          inl own_end ↦ have from which (owner_is s which from own_end)
-        | inr own_end ↦ have to which (owner_is s which to own_end)
-        ])
-    | inr old ↦ have id job old
+      | inl new ↦
+          subst (λ (n : ℕ). is_some (job_row s.jobs n) ≡ true) (sym new.1)
+          (elim (or_cases (is_owned_by s which from) (is_owned_by s which to) (and_parts (edge_stands s.graph (key_of edge from to)) (is_owned_by s which from || is_owned_by s which to) line).1) [
+            | inl own_end ↦ have from which (owner_is s which from own_end)
+            | inr own_end ↦ have to which (owner_is s which to own_end)
+          ])
+      | inr old ↦ have id job old
     ])
 owner_row s moment (Erase which gone) line have id job own = jobs_stay s moment (Erase which gone) job (have id job (left (eqb gone id) own))
   where
-  left : (b : Bool) → cond b None (owner s id) ≡ Some job → owner s id ≡ Some job
-  left true is = absurd (cc is)
-  left false is = is
+    left : (b : Bool) → cond b None (owner s id) ≡ Some job → owner s id ≡ Some job
+    left true is = absurd (cc is)
+    left false is = is
 owner_row s moment (Put which i) line have id job own = have id job own
 owner_row s moment (Purge which) line have id job own = jobs_stay s moment (Purge which) job (have id job own)
 
@@ -439,7 +441,13 @@ pub record Ordered (s : State) : Type 0 where
 
 pub ordered_start : (rules : RuleSet) → Ordered (start rules)
 ordered_start rules = record {
-  good = good_start rules; ids = tt; owners = tt; starts = tt; apart = tt; have_jobs = λ id job own. absurd (cc own) }
+  good = good_start rules;
+  ids = tt;
+  owners = tt;
+  starts = tt;
+  apart = tt;
+  have_jobs = λ id job own. absurd (cc own);
+}
 
 pub ordered_step : (s : State) (e : Entry) → Ordered s → is_legal s e ≡ true → Ordered (step s e)
 ordered_step s e ordered legal = record {
@@ -449,8 +457,9 @@ ordered_step s e ordered legal = record {
   starts = starts_step s e.moment e.what ordered.starts;
   apart = apart_step s e.moment e.what ordered.good (allowed_of s e legal) ordered.apart;
   have_jobs = λ id job own.
-    owner_row s e.moment e.what (allowed_of s e legal) ordered.have_jobs id job
-    (sym (owner_plain s e.moment e.what legal ordered.good.owned_stand ordered.good.ends id) ∙ own) }
+      owner_row s e.moment e.what (allowed_of s e legal) ordered.have_jobs id job
+      (sym (owner_plain s e.moment e.what legal ordered.good.owned_stand ordered.good.ends id) ∙ own);
+}
 
 pub ordered_after : (rules : RuleSet) (h : List Entry) → Legal rules h → Ordered (after rules h)
 ordered_after rules h legal = good_run Ordered ordered_step (start rules) h (ordered_start rules) legal

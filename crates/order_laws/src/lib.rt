@@ -12,15 +12,11 @@ ghost use Rattle.delf_model.specs.Sound.{FirstIsLegal};
 /// The first step of the serial order is legal where there is one, and where there is none no step is legal, at every
 /// moment that may come next.
 pub fn first_step_is_legal()
-    ensures {
-        (rules : RuleSet) (history : List Entry) (moment : ℕ) → Legal rules history →
-        (after rules history).moment ≤ moment → moment ≤ greatest_moment → FirstIsLegal (after rules history) moment
-    }
-{
-}
+    ensures { (rules : RuleSet) (history : List Entry) (moment : ℕ) → Legal rules history →
+        (after rules history).moment ≤ moment → moment ≤ greatest_moment → FirstIsLegal (after rules history) moment }
+{}
 
 /// No id stands twice in the graph, and rows go by rising id.
 pub fn rows_rise()
     ensures { (rules : RuleSet) (history : List Entry) → Legal rules history → IsTrue (objects_rise (after rules history).graph.objects) }
-{
-}
+{}

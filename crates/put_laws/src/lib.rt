@@ -11,5 +11,4 @@ ghost use Rattle.delf_model.specs.Sound.{PutsAreJudged};
 /// has no unhandled item, every item of it is handled.
 pub fn puts_are_judged()
     ensures { (rules : RuleSet) (history : List Entry) → Legal rules history → PutsAreJudged rules history }
-{
-}
+{}
