@@ -13,6 +13,7 @@ use Rattle.seat_lock.specs.declared.view.View.{View}
 use Rattle.seat_lock.specs.declared.view.Stage.{Stage}
 use Rattle.seat_lock.specs.declared.view.Stage.TheVariants.{Idle, Waiting, Turn}
 use Rattle.seat_lock.specs.Views.{made_by, moment, ticket, staged, leaves}
+use Rattle.seat_lock.specs.Promises.{OnlyMade}
 use Rattle.seat_lock.specs.Turns.{Course, total, ticket_count, tickets, present, HasTurn, FitsStage, IsCourse, Fits, FitsNumbers, Kept}
 use Rattle.seat_lock.proofs.Lists.{at_below, one_at, at_snoc_index, total-set, total-below, carried}
 
@@ -64,13 +65,9 @@ module _ {S E : Type 0} where
   }
 
 module _ {S E : Type 0} (entries : S → List E) (maker : E → Option ℕ) (first : ℕ) where
-  -- the list has changed for the number n alone
-  abbrev pub OnlyMade : ℕ → S → S → Type 0
-  OnlyMade n s t = (k : ℕ) → k ≢ n → made_by maker k (entries t) ≡ made_by maker k (entries s)
-
   -- a seat of another number knows what it knew
   pub refits : (c c' : Course S E) (n j : ℕ) (u : View S E) → c'.limit ≡ c.limit → c'.joined ≡ c.joined
-      → ((i : ℕ) (a : S) → get_elem? c.log i ≡ some a → get_elem? c'.log i ≡ some a) → OnlyMade n c.now c'.now
+      → ((i : ℕ) (a : S) → get_elem? c.log i ≡ some a → get_elem? c'.log i ≡ some a) → OnlyMade maker n (entries c.now) (entries c'.now)
       → u.number ≢ n → Fits entries maker first c j u → Fits entries maker first c' j u
   refits c c' n j u limit joined longer only ne f = record {
     numbered = f.numbered;
@@ -114,7 +111,7 @@ module _ {S E : Type 0} (entries : S → List E) (maker : E → Option ℕ) (fir
   }
 
   -- what stands of the numbers that are not a live seat's
-  pub renumbered : (start : S) (c c' : Course S E) (n : ℕ) → c'.limit ≡ c.limit → c'.joined ≡ c.joined → OnlyMade n c.now c'.now → first ≤ n → n < c.limit
+  pub renumbered : (start : S) (c c' : Course S E) (n : ℕ) → c'.limit ≡ c.limit → c'.joined ≡ c.joined → OnlyMade maker n (entries c.now) (entries c'.now) → first ≤ n → n < c.limit
       → ((p : ℕ × List E) → Contains c.joined p → p.0 ≢ n) → FitsNumbers entries maker first start c → FitsNumbers entries maker first start c'
   renumbered start c c' n limit joined only low high apart f = record {
     joined = λ p h. let old = subst (λ (js : List (ℕ × List E)). Contains js p) joined h in let r = f.joined p old in (subst (λ (k : ℕ). p.0 < k) (sym limit) r.0, only p.0 (apart p old) ∙ r.1);
@@ -133,7 +130,7 @@ module _ {T S E : Type 0} (state : T → S) (entries : S → List E) (maker : E 
       → ((j : ℕ) (u : View S E) → j ≢ id → get_elem? s.views j ≡ some u → FitsStage c' u.seen u.stage)
       → Fits entries maker first c' id w
       → ((i : ℕ) (a : S) → get_elem? k.course.log i ≡ some a → get_elem? c'.log i ≡ some a)
-      → OnlyMade entries maker first v.number k.course.now c'.now
+      → OnlyMade maker v.number (entries k.course.now) (entries c'.now)
       → ((j t : ℕ) (u : View S E) → j ≢ id → get_elem? s.views j ≡ some u → ticket u.stage ≡ Some t → ticket w.stage ≡ Some t → ⊥)
       → (((i : ℕ) (u : View S E) → get_elem? (set s.views id w) i ≡ some u → ¬ HasTurn u) → (x : T) × (get_elem? homes 0 ≡ some (some (Some x))) × (state x ≡ c'.now))
       → Kept state entries maker follows first start (record { words = words_of entries c'; homes = homes; views = set s.views id w })

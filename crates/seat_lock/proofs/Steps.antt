@@ -12,10 +12,11 @@ use Rattle.seat_lock.specs.declared.view.View.{View}
 use Rattle.seat_lock.specs.declared.view.Stage.{Stage}
 use Rattle.seat_lock.specs.declared.view.Stage.TheVariants.{Idle, Waiting, Turn}
 use Rattle.seat_lock.specs.Views.{made_by, moment, ticket, staged, sees, leaves, IsOrdered}
+use Rattle.seat_lock.specs.Promises.{IsNext, OnlyMade}
 use Rattle.seat_lock.specs.Turns.{Course, total, ticket_count, tickets, present, HasTurn, FitsStage, IsCourse, Fits, FitsNumbers, Kept}
-use Rattle.seat_lock.specs.Plays.{drew, passed, learned, IsNext, Looked, looked, Raised, raised}
+use Rattle.seat_lock.specs.Plays.{drew, passed, learned, Looked, looked, Raised, raised}
 use Rattle.seat_lock.proofs.Lists.{at_below, one_at, total-set, total-below, total-at, carried, raised-mod}
-use Rattle.seat_lock.proofs.Moves.{words_of, live_count, no_turn_before, turn_is_served, waits_between, ticket_between, longer_course, OnlyMade, refits, restaged, refreshed, moved}
+use Rattle.seat_lock.proofs.Moves.{words_of, live_count, no_turn_before, turn_is_served, waits_between, ticket_between, longer_course, refits, restaged, refreshed, moved}
 
 -- the words after one of three was raised
 word_drawn : (ws : List ℕ) (a b c : ℕ) → ws ≡ a ∷ (b % 2 ^ 64) ∷ c ∷ [] → (a ∷ ((b + 1) % 2 ^ 64) ∷ c ∷ []) ≡ set ws 1 ((slice_index ws 1 + 1) % 2 ^ 64)
@@ -240,7 +241,7 @@ module _ {T S E : Type 0} (state : T → S) (entries : S → List E) (maker : E 
       (k.seats id v at live)
 
   left_kept : (s : State (Option T) (View S E)) (k : Rule s) (id : ℕ) (v : View S E) (t : ℕ) (y : S) → get_elem? s.views id ≡ some v → v.live ≡ true → v.stage ≡ Turn t
-      → IsCourse follows (next_course k.course y) → OnlyMade entries maker first v.number k.course.now y
+      → IsCourse follows (next_course k.course y) → OnlyMade maker v.number (entries k.course.now) (entries y)
       → Rule (record { words = words_of entries (next_course k.course y); homes = s.homes; views = set s.views id (left_view k.course v y) })
   left_kept s k id v t y at live turn past only =
       let c = k.course in
@@ -265,7 +266,7 @@ module _ {T S E : Type 0} (state : T → S) (entries : S → List E) (maker : E 
 
   pub raises : ((s : S) → follows s s) → ((s t u : S) → follows s t → follows t u → follows s u)
       → (slots id : ℕ) (m : Me (Option T) (View S E)) (t : ℕ) (y : T) (more : ℕ) → m.0.live ≡ true → m.0.stage ≡ Turn t → m.1 ≡ (0, Some y) ∷ []
-      → follows (state y) m.0.seen.state → OnlyMade entries maker first m.0.number m.0.seen.state (state y)
+      → follows (state y) m.0.seen.state → OnlyMade maker m.0.number (entries m.0.seen.state) (entries (state y))
       → length (entries m.0.seen.state) + more ≡ length (entries (state y)) → length (entries (state y)) < 2 ^ 64
       → Allows Rule slots id m 0 (λ n. (n + more) % 2 ^ 64) (raised state entries maker follows (step 0 0 0 0 none) m)
   raises itself chain slots id m t y more live turn held next only count fits s k deep at small =
@@ -278,7 +279,7 @@ module _ {T S E : Type 0} (state : T → S) (entries : S → List E) (maker : E 
         tt,
         subst (λ (ws : List ℕ). Rule (record { words = ws; homes = s.homes; views = set s.views id (left_view c m.0 (state y)) }))
         (word_raised s.words (length (entries c.now)) (c.drawn % 2 ^ 64) (c.served % 2 ^ 64) more (length (entries (state y))) k.words (ap (λ (x : S). length (entries x) + more) (sym same) ∙ count) fits)
-        (left_kept s k id m.0 t (state y) at live turn past (subst (λ (x : S). OnlyMade entries maker first m.0.number x (state y)) same only)),
+        (left_kept s k id m.0 t (state y) at live turn past (subst (λ (x : S). OnlyMade maker m.0.number (entries x) (entries (state y))) same only)),
         λ x e. record {
           left = (c.clock + 1, ap (λ (z : T). (left_view c m.0 (state z), m.1)) (same_value m.1 x y e held));
           ordered = ordered_in (next_course c (state y)) id (left_view c m.0 (state y)) past (left_fits s k id m.0 (state y) at live)

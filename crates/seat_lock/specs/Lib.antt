@@ -1,4 +1,5 @@
 pub mod Views
+pub mod Promises
 pub mod Turns
 pub mod Plays
 pub mod Locks

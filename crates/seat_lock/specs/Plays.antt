@@ -3,6 +3,7 @@ use Rattle.std.specs.Prelude.{◌≡◌, ◌≢◌, ℕ, ◌+◌, ◌%◌, ◌^�
 use Rattle.atomic_table.specs.Table.{Me, Step}
 use Rattle.seat_lock.specs.declared.view.View.{View}
 use Rattle.seat_lock.specs.declared.view.Stage.TheVariants.{Idle, Waiting, Turn}
+use Rattle.seat_lock.specs.Promises.{IsNext}
 use Rattle.seat_lock.specs.Views.{made_by, moment, staged, sees, leaves, IsOrdered}
 
 module _ {T S E : Type 0} where
@@ -19,14 +20,9 @@ module _ {T S E : Type 0} where
   learned follows s m r m' = (m' ≡ m) × IsOrdered follows m.0 × (0 < m.0.next → m.0.number + 1 + length m.0.joined ≤ m.0.next)
 
 module _ {T S E : Type 0} (state : T → S) (entries : S → List E) (maker : E → Option ℕ) (follows : S → S → Type 0) where
-  -- the value that the seat may find: its state follows what the seat has seen, and the seat's own entries are those that it made
-  pub record IsNext (v : View S E) (x : T) : Type 0 where
-    pub later : follows (state x) v.seen.state
-    pub own : made_by maker v.number (entries (state x)) ≡ v.made
-
   -- where its ticket is served it has the turn and the value, and has seen the value's state; else nothing has changed
   pub record Looked (t : ℕ) (m : Me (Option T) (View S E)) (r : ℕ) (m' : Me (Option T) (View S E)) : Type 0 where
-    pub hit : r ≡ t % 2 ^ 64 → (x : T) × (at : ℕ) × IsNext m.0 x × (m' ≡ (sees (staged m.0 (Turn t)) (moment at (state x)), (0, Some x) ∷ m.1))
+    pub hit : r ≡ t % 2 ^ 64 → (x : T) × (at : ℕ) × IsNext state entries maker follows m.0 x × (m' ≡ (sees (staged m.0 (Turn t)) (moment at (state x)), (0, Some x) ∷ m.1))
     pub miss : r ≢ t % 2 ^ 64 → m' ≡ m
 
   abbrev pub looked : Step (Option T) → Me (Option T) (View S E) → ℕ → Me (Option T) (View S E) → Type 0
