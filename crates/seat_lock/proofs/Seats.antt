@@ -275,9 +275,18 @@ module _ {T S E : Type 0} (state : T → S) (entries : S → List E) (maker : E 
         numbered = f.numbered;
         seen = later_is (λ (m : Moment S). get_elem? k.course.log m.at ≡ some m.state) v.seen w.seen f.seen g.seen;
         remembers = λ m h. ⊎_elim
-            (λ a. let r = f.remembers m a in let p : m.at ≤ v.seen.at = r.1 in let q = least.0 in (r.0, omega arith))
-            (λ b. let r = g.remembers m b in let p : m.at ≤ w.seen.at = r.1 in let q = least.1 in (r.0, omega arith))
-            (Contains-append_cases v.remembers w.remembers m h);
+            (λ old. ⊎_elim
+                (λ a. let r = f.remembers m a in let p : m.at ≤ v.seen.at = r.1 in let q = least.0 in (r.0, omega arith))
+                (λ b. let r = g.remembers m b in let p : m.at ≤ w.seen.at = r.1 in let q = least.1 in (r.0, omega arith))
+                (Contains-append_cases v.remembers w.remembers m old))
+            (λ seen. ⊎_elim
+                (λ a. ⊎_elim
+                    (λ none. absurd (none_in m none))
+                    (λ e. subst (λ (x : Moment S). (get_elem? k.course.log x.at ≡ some x.state) × (x.at ≤ (later v.seen w.seen).at)) e (f.seen, least.0))
+                    (Contains-push_cases [] v.seen m a))
+                (λ e. subst (λ (x : Moment S). (get_elem? k.course.log x.at ≡ some x.state) × (x.at ≤ (later v.seen w.seen).at)) e (g.seen, least.1))
+                (Contains-push_cases (v.seen ∷ []) w.seen m seen))
+            (Contains-append_cases (v.remembers ++ w.remembers) (v.seen ∷ w.seen ∷ []) m h);
         own = f.own;
         root = λ z. ((f.root z).0, ap (λ (js : List (ℕ × List E)). js ++ (w.number, w.made) ∷ []) (f.root z).1);
         others = f.others;

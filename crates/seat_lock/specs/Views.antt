@@ -1,5 +1,5 @@
 -- What a seat knows, and what each call makes of it.
-use Rattle.std.specs.Prelude.{◌≡◌, ℕ, ◌+◌, ◌≤◌, ◌==◌, Bool, true, false, Option, Some, None, List, [], ◌∷◌, ◌++◌, nat_le, if◌then◌else◌}
+use Rattle.std.specs.Prelude.{◌≡◌, ℕ, ◌+◌, ◌-◌, ◌^◌, ◌<◌, ◌≤◌, ◌==◌, Bool, true, false, Option, Some, None, List, [], ◌∷◌, ◌++◌, length, nat_le, if◌then◌else◌}
 use Rattle.std.specs.List.{filter, Contains}
 use Rattle.seat_lock.specs.declared.view.Moment.{Moment}
 use Rattle.seat_lock.specs.declared.view.View.{View}
@@ -40,6 +40,10 @@ module _ {S E : Type 0} where
   abbrev pub leaves : View S E → Moment S → List E → View S E
   leaves v m made = record (sees v m) { made = made }
 
+  -- it had the turn: it found one moment and left another, with these entries of its own
+  abbrev pub took_turn : View S E → Moment S → Moment S → List E → View S E
+  took_turn v found left made = leaves (sees v found) left made
+
   -- a new seat, which was given one moment
   abbrev pub newcomer : ℕ → Moment S → View S E
   newcomer number m = record { live = true; number = number; stage = Idle; seen = m; remembers = m ∷ []; made = []; next = 0; joined = [] }
@@ -55,13 +59,25 @@ module _ {S E : Type 0} where
   abbrev pub split_off : View S E → View S E
   split_off v = newcomer v.next v.seen
 
-  -- the root v after the seat w was joined
+  -- the root v after the seat w was joined: it remembers what both remember, and was given what both have seen
   abbrev pub joined_root : View S E → View S E → View S E
-  joined_root v w = record v { seen = later v.seen w.seen; remembers = v.remembers ++ w.remembers; joined = v.joined ++ (w.number, w.made) ∷ [] }
+  joined_root v w = record v { seen = later v.seen w.seen; remembers = (v.remembers ++ w.remembers) ++ v.seen ∷ w.seen ∷ []; joined = v.joined ++ (w.number, w.made) ∷ [] }
 
   -- a seat that was joined
   abbrev pub gone : S → View S E
   gone blank = record (newcomer 0 (moment 0 blank)) { live = false }
+
+  -- only the root knows a next number
+  abbrev pub IsRoot : View S E → Type 0
+  IsRoot v = 0 < v.next
+
+  -- it is the root, and its next number is one
+  abbrev pub CanSplit : View S E → Type 0
+  CanSplit v = IsRoot v × (v.next < 2 ^ 32)
+
+  -- how many seats were split off and not joined
+  abbrev pub out_of : View S E → ℕ
+  out_of v = v.next - (v.number + 1 + length v.joined)
 
   -- of any two states that it remembers one follows the other, and what it has seen follows each
   pub record IsOrdered (follows : S → S → Type 0) (v : View S E) : Type 0 where

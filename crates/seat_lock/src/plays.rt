@@ -15,6 +15,12 @@ pub struct Origin<V> {
     pub start: Snapshot<V>,
 }
 
+impl<V> Drop for Origin<V> {
+    fn drop(self) {
+        let Self { first: _, start: _ } = self;
+    }
+}
+
 pub struct Turns;
 
 impl<V: Counted> TableRule<Option<V>, View<V::State, V::Entry>, Origin<V>> for Turns {
