@@ -1,5 +1,5 @@
 -- The steps and the calls in the form in which the lock's functions owe them.
-use Rattle.std.proofs.Common.{◌≡◌, ℕ, ◌+◌, ◌%◌, ◌^◌, ◌<◌, ◌≤◌, Bool, true, false, Option, Some, None, IsSome, List, [], ◌∷◌, ◌++◌, length, sym, refl, ap, ◌∙◌, subst, arith, max, length-append, if◌then◌else◌, nat_le}
+use Rattle.std.proofs.Common.{◌≡◌, ℕ, ◌+◌, ◌-◌, ◌%◌, ◌^◌, ◌<◌, ◌≤◌, Bool, true, false, Option, Some, None, IsSome, List, [], ◌∷◌, ◌++◌, length, sym, refl, ap, ◌∙◌, subst, arith, max, length-append, if◌then◌else◌, nat_le}
 use mathlib.Core.Option.{Option as Home, none, some, some-injective}
 use lib.ListN.{get_elem?}
 use Rattle.std.specs.List.{Contains}
@@ -8,9 +8,10 @@ use Rattle.atomic_table.specs.Table.{State, Me, step, Allows, Joins, Final, Seen
 use Rattle.atomic_table.specs.declared.shared.Seat.{Seat}
 use Rattle.seat_lock.specs.declared.view.Moment.{Moment}
 use Rattle.seat_lock.specs.declared.view.View.{View}
+use Rattle.seat_lock.specs.declared.view.Stage.{Stage}
 use Rattle.seat_lock.specs.declared.view.Stage.TheVariants.{Idle, Waiting, Turn}
-use Rattle.seat_lock.specs.Views.{made_by, moment, later, staged, sees, leaves, rooted, joined_root, gone, out_of, IsOrdered}
-use Rattle.seat_lock.specs.Promises.{NoneFrom, OnlyMade, IsNext, Closes}
+use Rattle.seat_lock.specs.Views.{made_by, moment, later, staged, sees, leaves, took_turn, rooted, joined_root, gone, out_of, IsOrdered}
+use Rattle.seat_lock.specs.Promises.{NoneFrom, OnlyMade, IsNext, Grows, Closes}
 use Rattle.seat_lock.specs.Turns.{Kept}
 use Rattle.seat_lock.specs.Plays.{passed, learned, Looked, looked, raised}
 use Rattle.seat_lock.proofs.Steps.{looks, raises, passes, learns}
@@ -21,7 +22,7 @@ longest f a b true p q = omega arith
 longest f a b false p q = omega arith
 
 module _ {S E : Type 0} where
-  pub restaged_order : (follows : S → S → Type 0) (v : View S E) (stage : Rattle.seat_lock.specs.declared.view.Stage.Stage) → IsOrdered follows v → IsOrdered follows (staged v stage)
+  pub restaged_order : (follows : S → S → Type 0) (v : View S E) (stage : Stage) → IsOrdered follows v → IsOrdered follows (staged v stage)
   restaged_order follows v stage o = record { rising = o.rising; highest = o.highest }
 
   -- the list that a joined root has seen is the longer one
@@ -180,3 +181,34 @@ module _ {T S E : Type 0} (state : T → S) (entries : S → List E) (maker : E 
       let q = joined_count entries follows grows v other.me.0 o in
       let d : b ≡ length (entries other.me.0.seen.state) = counted' ∙ ap (λ (p : Seat (Option T) (View S E)). length (entries p.me.0.seen.state)) (sym same) in
       is ∙ (ap (λ (n : ℕ). max n b) counted ∙ (ap (λ (n : ℕ). max (length (entries v.seen.state)) n) d ∙ (q ∙ ap (λ (x : Me (Option T) (View S E)). length (entries x.0.seen.state)) (sym (still ∙ both)))))
+
+  -- what the holder of the turn leaves follows what it found, and is as much longer as was counted
+  pub grown_later : (m : Me (Option T) (View S E)) (v : View S E) (t at n : ℕ) (x y : T) (hand : List (ℕ × Option T)) → m ≡ (sees (staged v (Turn t)) (moment at (state x)), hand) → Grows state entries maker follows n x y → follows (state y) m.0.seen.state
+  grown_later m v t at n x y hand e h = subst (λ (z : S). follows (state y) z) (sym (ap (λ (q : Me (Option T) (View S E)). q.0.seen.state) e)) h.later
+
+  pub grown_only : (m : Me (Option T) (View S E)) (v : View S E) (t at : ℕ) (x y : T) (hand : List (ℕ × Option T)) → m ≡ (sees (staged v (Turn t)) (moment at (state x)), hand) → Grows state entries maker follows v.number x y
+      → OnlyMade maker m.0.number (entries m.0.seen.state) (entries (state y))
+  grown_only m v t at x y hand e h = subst (λ (q : Me (Option T) (View S E)). OnlyMade maker q.0.number (entries q.0.seen.state) (entries (state y))) (sym e) h.only
+
+  pub grown_count : ((s t : S) → follows s t → (more : List E) × (entries s ≡ entries t ++ more)) → (n before after : ℕ) (x y : T) → Grows state entries maker follows n x y
+      → before ≡ length (entries (state x)) → after ≡ length (entries (state y)) → before ≤ after
+  grown_count grows n before after x y h a b =
+      let g = grows (state y) (state x) h.later in
+      let l = ap (λ (es : List E). length es) g.1 in
+      let m = length-append (entries (state x)) g.0 in
+      omega arith
+
+  pub grown_sum : (m : Me (Option T) (View S E)) (v : View S E) (t at before after : ℕ) (x y : T) (hand : List (ℕ × Option T)) → m ≡ (sees (staged v (Turn t)) (moment at (state x)), hand)
+      → before ≡ length (entries (state x)) → after ≡ length (entries (state y)) → before ≤ after → length (entries m.0.seen.state) + (after - before) ≡ length (entries (state y))
+  grown_sum m v t at before after x y hand e a b le =
+      let s = ap (λ (q : Me (Option T) (View S E)). length (entries q.0.seen.state)) e in
+      omega arith
+
+  -- what a seat knows after its turn
+  pub turn_view : (m m' : Me (Option T) (View S E)) (v : View S E) (t a b : ℕ) (x y : T) (hand hand' : List (ℕ × Option T)) → v.stage ≡ Idle → m ≡ (sees (staged v (Turn t)) (moment a (state x)), hand)
+      → m' ≡ (staged (leaves m.0 (moment b (state y)) (made_by maker m.0.number (entries (state y)))) Idle, hand')
+      → m'.0 ≡ took_turn v (moment a (state x)) (moment b (state y)) (made_by maker v.number (entries (state y)))
+  turn_view m m' v t a b x y hand hand' idle e e' =
+      ap (λ (q : Me (Option T) (View S E)). q.0) e'
+      ∙ (ap (λ (q : Me (Option T) (View S E)). staged (leaves q.0 (moment b (state y)) (made_by maker q.0.number (entries (state y)))) Idle) e
+      ∙ ap (λ (stage : Stage). staged (took_turn v (moment a (state x)) (moment b (state y)) (made_by maker v.number (entries (state y)))) stage) (sym idle))
