@@ -7,15 +7,15 @@ use lib.ListN.{get_elem?}
 use Rattle.std.specs.List.{Contains}
 use Rattle.std.proofs.lemmas.List.Elements.{Contains-push_cases}
 use Rattle.atomic_table.specs.Table.{State}
-use Rattle.atomic_table.proofs.Lists.{at_set, set_here, set_else, at_longer, at_last}
+use Rattle.atomic_table.proofs.Lists.{at_set, set_here, set_else, at_last}
 use Rattle.seat_lock.specs.declared.view.Moment.{Moment}
 use Rattle.seat_lock.specs.declared.view.View.{View}
 use Rattle.seat_lock.specs.declared.view.Stage.{Stage}
 use Rattle.seat_lock.specs.declared.view.Stage.TheVariants.{Idle, Waiting, Turn}
 use Rattle.seat_lock.specs.Views.{made_by, moment, ticket, staged, leaves}
 use Rattle.seat_lock.specs.Promises.{OnlyMade}
-use Rattle.seat_lock.specs.Turns.{Course, total, ticket_count, tickets, present, HasTurn, FitsStage, IsCourse, Fits, FitsNumbers, Kept}
-use Rattle.seat_lock.proofs.Lists.{at_below, one_at, at_snoc_index, total-set, total-below, carried}
+use Rattle.seat_lock.specs.Turns.{Course, ticket_count, HasTurn, FitsStage, IsCourse, Fits, FitsNumbers, Kept}
+use Rattle.seat_lock.proofs.Lists.{at_below, one_at, at_snoc_index, total-set, carried}
 
 module _ {S E : Type 0} where
   -- the words of a table on this course

@@ -1,22 +1,22 @@
 -- The first state, and a seat that is split off, joined or closed, keep the rule.
-use Rattle.std.proofs.Common.{◌≡◌, ◌≢◌, ℕ, zero, suc, ◌+◌, ◌%◌, ◌^◌, ◌<◌, ◌≤◌, ◌⊎◌, Bool, true, false, Option, Some, None, List, [], ◌∷◌, ◌++◌, length, set, get_or, sym, refl, ap, ◌∙◌, inl, inr, ⊎_elim, subst, arith, if◌then◌else◌, length-set, length-append, nat_le}
-use mathlib.Core.Option.{Option as Home, none, some, some-injective}
+use Rattle.std.proofs.Common.{◌≡◌, ◌≢◌, ℕ, ◌+◌, ◌^◌, ◌<◌, ◌≤◌, ◌⊎◌, Bool, true, false, Option, Some, List, [], ◌∷◌, ◌++◌, length, set, sym, refl, ap, ◌∙◌, inl, inr, ⊎_elim, subst, arith, if◌then◌else◌, length-set, length-append, nat_le}
+use mathlib.Core.Option.{some}
 use mathlib.Core.Logic.{dite}
-use native.Mathlib.Decide.{ℕ_discrete, dec_le}
+use native.Mathlib.Decide.{ℕ_discrete}
 use lib.ListN.{get_elem?}
 use Rattle.std.specs.List.{Contains}
 use Rattle.std.proofs.lemmas.List.Elements.{Contains-push_cases, Contains-append_cases}
 use Rattle.std.proofs.lemmas.Bool.Decides.{nat_tests}
 use Rattle.atomic_table.specs.Table.{State, opening, Splits, Joins, Final, Seen}
-use Rattle.atomic_table.proofs.Lists.{at_set, set_here, set_else, at_longer, at_last}
+use Rattle.atomic_table.proofs.Lists.{at_set, set_here, set_else, at_longer}
 use Rattle.seat_lock.specs.declared.view.Moment.{Moment}
 use Rattle.seat_lock.specs.declared.view.View.{View}
 use Rattle.seat_lock.specs.declared.view.Stage.{Stage}
 use Rattle.seat_lock.specs.declared.view.Stage.TheVariants.{Idle, Waiting, Turn}
-use Rattle.seat_lock.specs.Views.{made_by, moment, later, ticket, newcomer, rooted, split_root, split_off, joined_root, gone}
+use Rattle.seat_lock.specs.Views.{made_by, moment, later, ticket, rooted, split_root, split_off, joined_root, gone}
 use Rattle.seat_lock.specs.Promises.{NoneFrom, Closes}
-use Rattle.seat_lock.specs.Turns.{Course, total, ticket_count, tickets, present, HasTurn, FitsStage, IsCourse, Fits, FitsNumbers, Kept}
-use Rattle.seat_lock.proofs.Lists.{at_below, one_at, at_snoc_index, total-set, total-snoc, total-at, total-two, carried}
+use Rattle.seat_lock.specs.Turns.{Course, ticket_count, HasTurn, FitsStage, IsCourse, Fits, Kept}
+use Rattle.seat_lock.proofs.Lists.{at_below, one_at, at_snoc_index, total-set, total-snoc, total-two, carried}
 use Rattle.seat_lock.proofs.Moves.{live_count}
 
 module _ {A : Type 0} where

@@ -1,22 +1,21 @@
 -- The steps of a turn keep the rule: draw, look, raise, pass, and a look that tells what the rule says.
-use Rattle.std.proofs.Common.{◌≡◌, ◌≢◌, ℕ, zero, suc, ◌+◌, ◌%◌, ◌^◌, ◌<◌, ◌≤◌, ◌⊎◌, Bool, true, false, Option, Some, None, List, [], ◌∷◌, ◌++◌, length, set, get_or, sym, refl, ap, ◌∙◌, inl, inr, ⊎_elim, subst, arith, if◌then◌else◌, length-set, slice_index, length-append}
-use mathlib.Core.Option.{Option as Home, none, some, some-injective}
+use Rattle.std.proofs.Common.{◌≡◌, ◌≢◌, ℕ, zero, suc, ◌+◌, ◌%◌, ◌^◌, ◌<◌, ◌≤◌, true, Option, Some, List, [], ◌∷◌, ◌++◌, length, set, sym, refl, ap, ◌∙◌, subst, arith, if◌then◌else◌, length-set, slice_index, length-append}
+use mathlib.Core.Option.{none, some}
 use mathlib.Core.Logic.{dite}
 use native.Mathlib.Decide.{ℕ_discrete}
 use lib.ListN.{get_elem?}
-use Rattle.std.specs.List.{Contains}
-use Rattle.atomic_table.specs.Table.{State, Me, Act, step, keeps, takes, gives, Valid, carried_after, Allows, stepped, opening}
-use Rattle.atomic_table.proofs.Lists.{at_set, set_here, set_else, set_again, at_longer, at_last, one_turn}
+use Rattle.atomic_table.specs.Table.{State, Me, Act, step, keeps, takes, gives, Valid, carried_after, Allows, stepped}
+use Rattle.atomic_table.proofs.Lists.{set_here, set_again, at_longer, at_last, one_turn}
 use Rattle.seat_lock.specs.declared.view.Moment.{Moment}
 use Rattle.seat_lock.specs.declared.view.View.{View}
 use Rattle.seat_lock.specs.declared.view.Stage.{Stage}
 use Rattle.seat_lock.specs.declared.view.Stage.TheVariants.{Idle, Waiting, Turn}
 use Rattle.seat_lock.specs.Views.{made_by, moment, ticket, staged, sees, leaves, IsOrdered}
 use Rattle.seat_lock.specs.Promises.{IsNext, OnlyMade}
-use Rattle.seat_lock.specs.Turns.{Course, total, ticket_count, tickets, present, HasTurn, FitsStage, IsCourse, Fits, FitsNumbers, Kept}
-use Rattle.seat_lock.specs.Plays.{drew, passed, learned, Looked, looked, Raised, raised}
-use Rattle.seat_lock.proofs.Lists.{at_below, one_at, total-set, total-below, total-at, carried, raised-mod}
-use Rattle.seat_lock.proofs.Moves.{words_of, live_count, no_turn_before, turn_is_served, waits_between, ticket_between, longer_course, refits, restaged, refreshed, moved}
+use Rattle.seat_lock.specs.Turns.{Course, ticket_count, HasTurn, FitsStage, IsCourse, Fits, Kept}
+use Rattle.seat_lock.specs.Plays.{drew, passed, learned, Looked, looked, raised}
+use Rattle.seat_lock.proofs.Lists.{at_below, one_at, total-below, total-at, raised-mod}
+use Rattle.seat_lock.proofs.Moves.{words_of, live_count, no_turn_before, turn_is_served, waits_between, ticket_between, longer_course, restaged, refreshed, moved}
 
 -- the words after one of three was raised
 word_drawn : (ws : List ℕ) (a b c : ℕ) → ws ≡ a ∷ (b % 2 ^ 64) ∷ c ∷ [] → (a ∷ ((b + 1) % 2 ^ 64) ∷ c ∷ []) ≡ set ws 1 ((slice_index ws 1 + 1) % 2 ^ 64)

@@ -1,4 +1,4 @@
-use Rattle.std.proofs.Common.{◌≡◌, ℕ, ◌+◌, ◌%◌, ◌^◌, ◌<◌, ◌≤◌, Option, Some, None, List, [], ◌∷◌, length, max, sym, refl, ap, ◌∙◌, subst, arith}
+use Rattle.std.proofs.Common.{◌+◌, ◌≤◌, length, arith}
 use Rattle.std.specs.Slots.{slots_items}
 use Rattle.seat_lock.proofs.Calls.{closes_of, closed_value, closed_some}
 use Rattle.seat_lock.proofs.lock.SeatLock.close.Goals as goal

@@ -1,6 +1,6 @@
-use Rattle.std.proofs.Common.{◌≡◌, ℕ, ◌+◌, ◌%◌, ◌^◌, ◌<◌, ◌≤◌, Option, Some, None, List, [], ◌∷◌, length, max, sym, refl, ap, ◌∙◌, subst, arith}
+use Rattle.std.proofs.Common.{◌^◌, ◌<◌, length, refl, ◌∙◌, arith}
 use Rattle.seat_lock.specs.Views.{moment, leaves, made_by}
-use Rattle.seat_lock.proofs.Calls.{handed, raises_at, passes_at, left_at, passed_at, passed_order}
+use Rattle.seat_lock.proofs.Calls.{handed, raises_at, passes_at, left_at}
 use Rattle.seat_lock.proofs.lock.SeatLock.end_turn.Goals as goal
 
 pub fetch_add-requires : goal.fetch_add-requires

@@ -1,4 +1,4 @@
-use Rattle.std.proofs.Common.{◌≡◌, ℕ, ◌+◌, ◌%◌, ◌^◌, ◌<◌, ◌≤◌, Option, Some, None, List, [], ◌∷◌, length, max, sym, refl, ap, ◌∙◌, subst, arith}
+use Rattle.std.proofs.Common.{◌≡◌, ◌∙◌, arith}
 use Rattle.seat_lock.specs.Views.{joined_root}
 use Rattle.seat_lock.proofs.Calls.{joins_of, learns_at, joined_seen}
 use Rattle.seat_lock.proofs.lock.SeatLock.join.Goals as goal

@@ -1,4 +1,3 @@
-use Rattle.std.proofs.Common.{◌≡◌, ℕ, ◌+◌, ◌%◌, ◌^◌, ◌<◌, ◌≤◌, Option, Some, None, List, [], ◌∷◌, length, max, sym, refl, ap, ◌∙◌, subst, arith}
 use Rattle.seat_lock.proofs.Calls.{begins_of}
 use Rattle.seat_lock.proofs.lock.SeatLock.new.Goals as goal
 

@@ -1,4 +1,4 @@
-use Rattle.std.proofs.Common.{◌≡◌, ℕ, ◌+◌, ◌%◌, ◌^◌, ◌<◌, ◌≤◌, Option, Some, None, List, [], ◌∷◌, length, max, sym, refl, ap, ◌∙◌, subst, arith}
+use Rattle.std.proofs.Common.{◌∙◌, arith}
 use Rattle.seat_lock.proofs.Steps.{draws}
 use Rattle.seat_lock.proofs.Calls.{looks_at, hit_at, miss_at, hit_holds, hit_some, hit_next, hit_found}
 use Rattle.seat_lock.proofs.lock.SeatLock.take_turn.Goals as goal

@@ -1,4 +1,4 @@
-use Rattle.std.proofs.Common.{[], ◌∷◌, refl}
+use Rattle.std.proofs.Common.{refl}
 use Rattle.std.specs.Fn.{FnOnceReturnsAtMut}
 use Rattle.seat_lock.proofs.Calls.{grown_later, grown_only, grown_count, grown_sum, turn_view}
 use Rattle.seat_lock.proofs.lock.SeatLock.with.Goals as goal
