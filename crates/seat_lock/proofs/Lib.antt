@@ -3,3 +3,4 @@ pub mod Moves
 pub mod Steps
 pub mod Seats
 pub mod Calls
+pub mod Numbers

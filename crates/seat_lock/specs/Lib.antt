@@ -3,3 +3,4 @@ pub mod Promises
 pub mod Turns
 pub mod Plays
 pub mod Locks
+pub mod Lists

@@ -8,6 +8,7 @@
 mod counted;
 mod lock;
 mod plays;
+mod tests;
 mod view;
 
 pub use counted::Counted;
