@@ -1,5 +1,6 @@
 //! A list of seat numbers. Each seat adds its own.
-ghost use Rattle.std.specs.Prelude.{◌≡◌, ◌≢◌, ℕ, ◌+◌, ◌<◌, ◌≤◌, ◌^◌, [], ◌∷◌, ◌++◌, Some, IfOk, is_ok, if◌then◌else◌, vec_len, replicate};
+ghost use Rattle.std.specs.Prelude.{◌≡◌, ◌≢◌, ℕ, ◌+◌, ◌<◌, ◌≤◌, ◌^◌, [], ◌∷◌, ◌++◌, Some, IfSome, is_ok, if◌then◌else◌, vec_len, replicate};
+ghost use Rattle.std.specs.Thread.{IsSync};
 ghost use Rattle.seat_lock.specs.Lists.{StartsWith, StartsWith-itself, StartsWith-chain, with_added};
 ghost use Rattle.seat_lock.specs.Views.{made_by};
 ghost use Rattle.seat_lock.specs.Locks.{view, IsOf};
@@ -83,4 +84,49 @@ fn fill<R: Wait>(
         }
     }
     (added, seat)
+}
+
+// Two threads take so many turns each. Gives in how many the seats 1 and 2 added their number, and the list.
+fn filled_by_two<R: Threads + Wait + Sync>(
+    rt: &R,
+    alloc: Global,
+    turns: u32,
+) -> Option<(u32, u32, Vec<u32>)>
+    ensures one { IfSome result (λ r. made_by Some 1 r.2.items ≡ replicate r.0 1) }
+    ensures two { IfSome result (λ r. made_by Some 2 r.2.items ≡ replicate r.1 2) }
+    ensures others { IfSome result (λ r. (n : ℕ) → n ≢ 1 → n ≢ 2 → made_by Some n r.2.items ≡ []) }
+{
+    let Ok((lock, mut root)) = SeatLock::new(alloc, no_numbers(alloc), 0) else {
+        return None;
+    };
+    let one = lock.split(&mut root).unwrap();
+    let two = lock.split(&mut root).unwrap();
+    let shared = &lock;
+    let (one, two) = join(
+        rt,
+        move || -> (u32, Seat<Numbers>)
+            requires { IsSync R.row × IsOf shared.now one }
+            ensures ours { IsOf shared.entry.now result.1 }
+            ensures made { (view result.1).made ≡ (view one).made ++ replicate result.0 (view one).number }
+            ensures same { ((view result.1).number ≡ (view one).number) × ((view result.1).next ≡ (view one).next) }
+        { fill(rt, shared, one, turns) },
+        move || -> (u32, Seat<Numbers>)
+            requires { IsSync R.row × IsOf shared.now two }
+            ensures ours { IsOf shared.entry.now result.1 }
+            ensures made { (view result.1).made ≡ (view two).made ++ replicate result.0 (view two).number }
+            ensures same { ((view result.1).number ≡ (view two).number) × ((view result.1).next ≡ (view two).next) }
+        { fill(rt, shared, two, turns) },
+    );
+    lock.join(&mut root, one.1);
+    lock.join(&mut root, two.1);
+    let Numbers { list } = lock.close(root);
+    Some((one.0, two.0, list))
+}
+
+fn no_numbers(alloc: Global) -> Numbers
+    ensures { result.list.items ≡ [] }
+{
+    Numbers {
+        list: Vec::new(alloc),
+    }
 }
