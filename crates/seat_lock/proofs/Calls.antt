@@ -33,6 +33,7 @@ module _ {S E : Type 0} where
     where
       has : (m : Moment S) → Contains (v.seen ∷ w.seen ∷ []) m → Contains ((v.remembers ++ w.remembers) ++ v.seen ∷ w.seen ∷ []) m
       has m h = Contains-append_right (v.remembers ++ w.remembers) (v.seen ∷ w.seen ∷ []) m h
+
       below : (m : Moment S) → Contains ((v.remembers ++ w.remembers) ++ v.seen ∷ w.seen ∷ []) m → length (entries m.state) ≤ length (entries (later v.seen w.seen).state)
       below m h =
           let g = grows (later v.seen w.seen).state m.state (o.highest m h) in

@@ -54,14 +54,14 @@ module _ {S E : Type 0} where
     last = at_last c.log y (c.clock + 1) past.long;
     ordered = λ i j a b le e f. ⊎_elim
         (λ q. ⊎_elim
-            (λ p. past.ordered i j a b le p.1 q.1)
-            (λ p. let h : j < length c.log = q.0 in let g : i ≡ length c.log = p.0 in absurd (omega arith))
-            (at_snoc_index c.log y a i e))
+        (λ p. past.ordered i j a b le p.1 q.1)
+        (λ p. let h : j < length c.log = q.0 in let g : i ≡ length c.log = p.0 in absurd (omega arith))
+        (at_snoc_index c.log y a i e))
         (λ q. ⊎_elim
-            (λ p. subst (λ (x : S). follows x a) q.1 (chain y c.now a next (past.ordered i c.clock a c.now (let g : i < length c.log = p.0 in let h : length c.log ≡ c.clock + 1 = past.long in omega arith) p.1 past.last)))
-            (λ p. subst (λ (x : S). follows x a) q.1 (subst (λ (x : S). follows y x) p.1 (itself y)))
-            (at_snoc_index c.log y a i e))
-        (at_snoc_index c.log y b j f)
+        (λ p. subst (λ (x : S). follows x a) q.1 (chain y c.now a next (past.ordered i c.clock a c.now (let g : i < length c.log = p.0 in let h : length c.log ≡ c.clock + 1 = past.long in omega arith) p.1 past.last)))
+        (λ p. subst (λ (x : S). follows x a) q.1 (subst (λ (x : S). follows y x) p.1 (itself y)))
+        (at_snoc_index c.log y a i e))
+        (at_snoc_index c.log y b j f);
   }
 
 module _ {S E : Type 0} (entries : S → List E) (maker : E → Option ℕ) (first : ℕ) where
@@ -76,7 +76,7 @@ module _ {S E : Type 0} (entries : S → List E) (maker : E → Option ℕ) (fir
     own = only u.number ne ∙ f.own;
     root = λ z. let r = f.root z in (r.0 ∙ sym limit, r.1 ∙ sym joined);
     others = f.others;
-    unjoined = λ p h. f.unjoined p (subst (λ (js : List (ℕ × List E)). Contains js p) joined h)
+    unjoined = λ p h. f.unjoined p (subst (λ (js : List (ℕ × List E)). Contains js p) joined h);
   }
 
   -- where tickets are drawn and served and the seat's stage changes, it knows what it knew
@@ -88,7 +88,7 @@ module _ {S E : Type 0} (entries : S → List E) (maker : E → Option ℕ) (fir
     own = f.own;
     root = f.root;
     others = f.others;
-    unjoined = f.unjoined
+    unjoined = f.unjoined;
   }
 
   -- a seat that sees the last state, in which it has these entries
@@ -107,7 +107,7 @@ module _ {S E : Type 0} (entries : S → List E) (maker : E → Option ℕ) (fir
     own = own;
     root = λ z. let r = f.root z in (r.0 ∙ sym limit, r.1 ∙ sym joined);
     others = f.others;
-    unjoined = λ p h. f.unjoined p (subst (λ (js : List (ℕ × List E)). Contains js p) joined h)
+    unjoined = λ p h. f.unjoined p (subst (λ (js : List (ℕ × List E)). Contains js p) joined h);
   }
 
   -- what stands of the numbers that are not a live seat's
@@ -116,7 +116,7 @@ module _ {S E : Type 0} (entries : S → List E) (maker : E → Option ℕ) (fir
   renumbered start c c' n limit joined only low high apart f = record {
     joined = λ p h. let old = subst (λ (js : List (ℕ × List E)). Contains js p) joined h in let r = f.joined p old in (subst (λ (k : ℕ). p.0 < k) (sym limit) r.0, only p.0 (apart p old) ∙ r.1);
     elder = λ k below. only k (λ e. omega arith) ∙ f.elder k below;
-    unborn = λ k above. only k (λ e. omega arith) ∙ f.unborn k (omega arith)
+    unborn = λ k above. only k (λ e. omega arith) ∙ f.unborn k (omega arith);
   }
 
 module _ {T S E : Type 0} (state : T → S) (entries : S → List E) (maker : E → Option ℕ) (follows : S → S → Type 0) (first : ℕ) (start : S) where
@@ -145,10 +145,10 @@ module _ {T S E : Type 0} (state : T → S) (entries : S → List E) (maker : E 
         (λ same. (w, subst (λ (n : ℕ). get_elem? (set s.views id w) n ≡ some w) (sym same) (set_here s.views id w (at_below s.views id v at)), live'))
         (λ ne. (k.rooted.0, set_else s.views id 0 w ne ∙ k.rooted.1, k.rooted.2));
     out = (
-      let h = total-set (λ (u : View S E). if u.live then 1 else 0) s.views id v w at in
-      let a = live_count v live in let b = live_count w live' in let o = k.out in let l = length-set s.views id w in let j = ap (λ (js : List (ℕ × List E)). length js) joined in
-      omega arith
-    );
+        let h = total-set (λ (u : View S E). if u.live then 1 else 0) s.views id v w at in
+        let a = live_count v live in let b = live_count w live' in let o = k.out in let l = length-set s.views id w in let j = ap (λ (js : List (ℕ × List E)). length js) joined in
+        omega arith
+        );
     past = past;
     stages = λ j u e. ⊎_elim (λ p. subst (λ (x : View S E). FitsStage c' x.seen x.stage) p.1 stage) (λ p. stages j u p.0 p.1) (at_set s.views id j w u e);
     seats = λ j u e on. ⊎_elim
@@ -158,23 +158,26 @@ module _ {T S E : Type 0} (state : T → S) (entries : S → List E) (maker : E 
     idle = λ j u e off. ⊎_elim (λ p. absurd (let a = live' in let b = ap (λ (x : View S E). x.live) p.1 in cc)) (λ p. k.idle j u p.1 off) (at_set s.views id j w u e);
     apart = λ i j t x y e f g h. ⊎_elim
         (λ p. ⊎_elim
-            (λ q. p.0 ∙ sym q.0)
-            (λ q. absurd (apart j t y q.0 q.1 h (ap (λ (u : View S E). ticket u.stage) p.1 ∙ g)))
-            (at_set s.views id j w y f))
+        (λ q. p.0 ∙ sym q.0)
+        (λ q. absurd (apart j t y q.0 q.1 h (ap (λ (u : View S E). ticket u.stage) p.1 ∙ g)))
+        (at_set s.views id j w y f))
         (λ p. ⊎_elim
-            (λ q. absurd (apart i t x p.0 p.1 g (ap (λ (u : View S E). ticket u.stage) q.1 ∙ h)))
-            (λ q. k.apart i j t x y p.1 q.1 g h)
-            (at_set s.views id j w y f))
+        (λ q. absurd (apart i t x p.0 p.1 g (ap (λ (u : View S E). ticket u.stage) q.1 ∙ h)))
+        (λ q. k.apart i j t x y p.1 q.1 g h)
+        (at_set s.views id j w y f))
         (at_set s.views id i w x e);
     home = home;
-    numbers = renumbered entries maker first start k.course c' v.number limit joined only low high (k.seats id v at live).unjoined k.numbers
+    numbers = renumbered entries maker first start k.course c' v.number limit joined only low high (k.seats id v at live).unjoined k.numbers;
   }
     where
       mine : v.number ≡ first + id
       mine = (k.seats id v at live).numbered
+
       other_number : (j : ℕ) (u : View S E) → j ≢ id → get_elem? s.views j ≡ some u → u.live ≡ true → u.number ≢ v.number
       other_number j u ne e on same = let theirs : u.number ≡ first + j = (k.seats j u e on).numbered in let m = mine in ne (omega arith)
+
       low : first ≤ v.number
       low = let m = mine in omega arith
+
       high : v.number < k.course.limit
       high = let m = mine in let g = k.given in let b : id < length s.views = at_below s.views id v at in omega arith

@@ -54,8 +54,7 @@ both_listed list start r s t u w a b one two n m root first split_one second spl
     let one_is = split_one ∙ ap split_off root in
     let two_is = split_two ∙ ap split_off (first ∙ ap split_root root) in
     let one_number = ap (λ (x : View (List ℕ) ℕ). x.number) one_is in
-    let two_number = ap (λ (x : View (List ℕ) ℕ). x.number) two_is in
-    (
+    let two_number = ap (λ (x : View (List ℕ) ℕ). x.number) two_is in (
       listed list a.made one.made 1 n a.number one.number (closed (a.number, a.made) both.0) made (number ∙ one_number) one_number (ap (λ (x : View (List ℕ) ℕ). x.made) one_is),
       listed list b.made two.made 2 m b.number two.number (closed (b.number, b.made) both.1) made' (number' ∙ two_number) two_number (ap (λ (x : View (List ℕ) ℕ). x.made) two_is),
     )

@@ -85,7 +85,7 @@ module _ {T S E : Type 0} (state : T → S) (entries : S → List E) (maker : E 
     last = refl;
     ordered = λ i j a b le e f.
         let p = (only_one start a i e).1 in let q = (only_one start b j f).1 in
-        subst (λ (x : S). follows x a) q (subst (λ (x : S). follows start x) p (itself start))
+        subst (λ (x : S). follows x a) q (subst (λ (x : S). follows start x) p (itself start));
   }
 
   first_fits : NoneFrom maker first (entries start) → Fits entries maker first first_course 0 first_view
@@ -99,7 +99,7 @@ module _ {T S E : Type 0} (state : T → S) (entries : S → List E) (maker : E 
     own = fresh first (omega arith);
     root = λ z. (refl, refl);
     others = λ h. absurd (omega arith);
-    unjoined = λ p h. absurd (none_in p h)
+    unjoined = λ p h. absurd (none_in p h);
   }
 
   pub begins : ((s : S) → follows s s) → (x : T) → state x ≡ start → NoneFrom maker first (entries start) → first < 2 ^ 32
@@ -122,8 +122,8 @@ module _ {T S E : Type 0} (state : T → S) (entries : S → List E) (maker : E 
     numbers = record {
       joined = λ p h. absurd (none_in p h);
       elder = λ n below. refl;
-      unborn = λ n above. fresh n (omega arith)
-    }
+      unborn = λ n above. fresh n (omega arith);
+    };
   }
 
   -- a seat that knows a next number is the first
@@ -146,7 +146,7 @@ module _ {T S E : Type 0} (state : T → S) (entries : S → List E) (maker : E 
         own = f.own;
         root = λ z. (ap (λ (n : ℕ). n + 1) (f.root z).0, (f.root z).1);
         others = λ h. absurd (omega arith);
-        unjoined = f.unjoined
+        unjoined = f.unjoined;
       }
 
   new_fits : (s : State (Option T) (View S E)) (k : Rule s) (id : ℕ) (v : View S E) → get_elem? s.views id ≡ some v → v.live ≡ true → 0 < v.next
@@ -164,7 +164,7 @@ module _ {T S E : Type 0} (state : T → S) (entries : S → List E) (maker : E 
         own = k.numbers.unborn v.next (omega arith);
         root = λ z. absurd (let b = at_below s.views id v at in omega arith);
         others = λ h. refl;
-        unjoined = λ p h e. let b : p.0 < k.course.limit = (k.numbers.joined p h).0 in omega arith
+        unjoined = λ p h e. let b : p.0 < k.course.limit = (k.numbers.joined p h).0 in omega arith;
       }
 
   other_fits : (s : State (Option T) (View S E)) (k : Rule s) (j : ℕ) (u : View S E) → j ≢ 0 → get_elem? s.views j ≡ some u → u.live ≡ true → Fits entries maker first (longer_limit k.course) j u
@@ -179,19 +179,19 @@ module _ {T S E : Type 0} (state : T → S) (entries : S → List E) (maker : E 
     words = k.words;
     deep = k.deep;
     queued = (
-      let h = total-set (λ (u : View S E). ticket_count u.stage) s.views id v (split_root v) at in
-      let l = total-snoc (λ (u : View S E). ticket_count u.stage) (set s.views id (split_root v)) (split_off v) in
-      let q = k.queued in omega arith
-    );
+        let h = total-set (λ (u : View S E). ticket_count u.stage) s.views id v (split_root v) at in
+        let l = total-snoc (λ (u : View S E). ticket_count u.stage) (set s.views id (split_root v)) (split_off v) in
+        let q = k.queued in omega arith
+        );
     given = (let g = k.given in let l = length-append (set s.views id (split_root v)) (split_off v ∷ []) in let n = length-set s.views id (split_root v) in omega arith);
     few = (let l : v.next ≡ c.limit = (f.root index).0 in omega arith);
     rooted = (split_root v, subst (λ (n : ℕ). get_elem? views' n ≡ some (split_root v)) index (at_longer (set s.views id (split_root v)) (split_off v ∷ []) id (split_root v) (set_here s.views id (split_root v) (at_below s.views id v at))), live);
     out = (
-      let h = total-set (λ (u : View S E). if u.live then 1 else 0) s.views id v (split_root v) at in
-      let l = total-snoc (λ (u : View S E). if u.live then 1 else 0) (set s.views id (split_root v)) (split_off v) in
-      let m = length-append (set s.views id (split_root v)) (split_off v ∷ []) in let n = length-set s.views id (split_root v) in
-      let o = k.out in omega arith
-    );
+        let h = total-set (λ (u : View S E). if u.live then 1 else 0) s.views id v (split_root v) at in
+        let l = total-snoc (λ (u : View S E). if u.live then 1 else 0) (set s.views id (split_root v)) (split_off v) in
+        let m = length-append (set s.views id (split_root v)) (split_off v ∷ []) in let n = length-set s.views id (split_root v) in
+        let o = k.out in omega arith
+        );
     past = record { long = k.past.long; last = k.past.last; ordered = k.past.ordered };
     stages = seats_grow (λ j u. FitsStage (longer_limit c) u.seen u.stage) s.views id (split_root v) (split_off v)
         (restand c (longer_limit c) v.seen v.stage refl refl refl (k.stages id v at))
@@ -210,24 +210,28 @@ module _ {T S E : Type 0} (state : T → S) (entries : S → List E) (maker : E 
         k.apart i j t a.0 b.0 a.1 b.1 a.2 b.2;
     home = λ free. k.home (λ i u e. dite (ℕ_discrete i id)
         (λ same h. free i (split_root v)
-            (at_longer (set s.views id (split_root v)) (split_off v ∷ []) i (split_root v) (subst (λ (n : ℕ). get_elem? (set s.views id (split_root v)) n ≡ some (split_root v)) (sym same) (set_here s.views id (split_root v) (at_below s.views id v at))))
-            (h.0, ap (λ (x : View S E). x.stage) (one_at s.views id i v u at e (sym same)) ∙ h.1))
+        (at_longer (set s.views id (split_root v)) (split_off v ∷ []) i (split_root v) (subst (λ (n : ℕ). get_elem? (set s.views id (split_root v)) n ≡ some (split_root v)) (sym same) (set_here s.views id (split_root v) (at_below s.views id v at))))
+        (h.0, ap (λ (x : View S E). x.stage) (one_at s.views id i v u at e (sym same)) ∙ h.1))
         (λ ne. free i u (at_longer (set s.views id (split_root v)) (split_off v ∷ []) i u (set_else s.views id i (split_root v) ne ∙ e))));
     numbers = record {
       joined = λ p h. let b : p.0 < c.limit = (k.numbers.joined p h).0 in (omega arith, (k.numbers.joined p h).1);
       elder = k.numbers.elder;
-      unborn = λ n h. k.numbers.unborn n (omega arith)
-    }
+      unborn = λ n h. k.numbers.unborn n (omega arith);
+    };
   }
     where
       c : Course S E
       c = k.course
+
       f : Fits entries maker first k.course id v
       f = k.seats id v at live
+
       index : id ≡ 0
       index = root_index s k id v at live above
+
       views' : List (View S E)
       views' = set s.views id (split_root v) ++ split_off v ∷ []
+
       held : (j : ℕ) (u : View S E) → get_elem? (set s.views id (split_root v) ++ split_off v ∷ []) j ≡ some u → Holder s.views j u
       held = seats_grow (Holder s.views) s.views id (split_root v) (split_off v)
           (λ t h. (v, at, h))
@@ -262,7 +266,7 @@ module _ {T S E : Type 0} (state : T → S) (entries : S → List E) (maker : E 
         unjoined = λ p h. ⊎_elim
             (λ old. f.unjoined p old)
             (λ q z. numbers_apart s k other j w u (λ o. apart (sym o)) at live e on (ap (λ (x : ℕ × List E). x.0) q ∙ z))
-            (Contains-push_cases k.course.joined (w.number, w.made) p h)
+            (Contains-push_cases k.course.joined (w.number, w.made) p h);
       }
 
   joined_fits : (s : State (Option T) (View S E)) (k : Rule s) (id other : ℕ) (v w : View S E) → other ≢ id → get_elem? s.views id ≡ some v → v.live ≡ true → 0 < v.next → get_elem? s.views other ≡ some w → w.live ≡ true
@@ -276,16 +280,16 @@ module _ {T S E : Type 0} (state : T → S) (entries : S → List E) (maker : E 
         seen = later_is (λ (m : Moment S). get_elem? k.course.log m.at ≡ some m.state) v.seen w.seen f.seen g.seen;
         remembers = λ m h. ⊎_elim
             (λ old. ⊎_elim
-                (λ a. let r = f.remembers m a in let p : m.at ≤ v.seen.at = r.1 in let q = least.0 in (r.0, omega arith))
-                (λ b. let r = g.remembers m b in let p : m.at ≤ w.seen.at = r.1 in let q = least.1 in (r.0, omega arith))
-                (Contains-append_cases v.remembers w.remembers m old))
+            (λ a. let r = f.remembers m a in let p : m.at ≤ v.seen.at = r.1 in let q = least.0 in (r.0, omega arith))
+            (λ b. let r = g.remembers m b in let p : m.at ≤ w.seen.at = r.1 in let q = least.1 in (r.0, omega arith))
+            (Contains-append_cases v.remembers w.remembers m old))
             (λ seen. ⊎_elim
-                (λ a. ⊎_elim
-                    (λ none. absurd (none_in m none))
-                    (λ e. subst (λ (x : Moment S). (get_elem? k.course.log x.at ≡ some x.state) × (x.at ≤ (later v.seen w.seen).at)) e (f.seen, least.0))
-                    (Contains-push_cases [] v.seen m a))
-                (λ e. subst (λ (x : Moment S). (get_elem? k.course.log x.at ≡ some x.state) × (x.at ≤ (later v.seen w.seen).at)) e (g.seen, least.1))
-                (Contains-push_cases (v.seen ∷ []) w.seen m seen))
+            (λ a. ⊎_elim
+            (λ none. absurd (none_in m none))
+            (λ e. subst (λ (x : Moment S). (get_elem? k.course.log x.at ≡ some x.state) × (x.at ≤ (later v.seen w.seen).at)) e (f.seen, least.0))
+            (Contains-push_cases [] v.seen m a))
+            (λ e. subst (λ (x : Moment S). (get_elem? k.course.log x.at ≡ some x.state) × (x.at ≤ (later v.seen w.seen).at)) e (g.seen, least.1))
+            (Contains-push_cases (v.seen ∷ []) w.seen m seen))
             (Contains-append_cases (v.remembers ++ w.remembers) (v.seen ∷ w.seen ∷ []) m h);
         own = f.own;
         root = λ z. ((f.root z).0, ap (λ (js : List (ℕ × List E)). js ++ (w.number, w.made) ∷ []) (f.root z).1);
@@ -293,7 +297,7 @@ module _ {T S E : Type 0} (state : T → S) (entries : S → List E) (maker : E 
         unjoined = λ p h. ⊎_elim
             (λ old. f.unjoined p old)
             (λ q z. numbers_apart s k other id w v ne at' live' at live (ap (λ (x : ℕ × List E). x.0) q ∙ z))
-            (Contains-push_cases k.course.joined (w.number, w.made) p h)
+            (Contains-push_cases k.course.joined (w.number, w.made) p h);
       }
 
   joins_kept : (s : State (Option T) (View S E)) (k : Rule s) (id other : ℕ) (v w : View S E) (blank : S) → other ≢ id
@@ -304,23 +308,27 @@ module _ {T S E : Type 0} (state : T → S) (entries : S → List E) (maker : E 
     words = k.words;
     deep = k.deep;
     queued = (
-      let h = total-set (λ (u : View S E). ticket_count u.stage) s.views id v both at in
-      let l = total-set (λ (u : View S E). ticket_count u.stage) (set s.views id both) other w (gone blank) there in
-      let t : ticket_count w.stage ≡ 0 = ap ticket_count free' in
-      let q = k.queued in omega arith
-    );
+        let h = total-set (λ (u : View S E). ticket_count u.stage) s.views id v both at in
+        let l = total-set (λ (u : View S E). ticket_count u.stage) (set s.views id both) other w (gone blank) there in
+        let t : ticket_count w.stage ≡ 0 = ap ticket_count free' in
+        let q = k.queued in omega arith
+        );
     given = (let g = k.given in let l = length-set (set s.views id both) other (gone blank) in let n = length-set s.views id both in omega arith);
     few = k.few;
-    rooted = (both, subst (λ (n : ℕ). get_elem? (set (set s.views id both) other (gone blank)) n ≡ some both) index
-        (set_else (set s.views id both) other id (gone blank) (λ o. ne (sym o)) ∙ set_here s.views id both (at_below s.views id v at)), live);
-    out = (
-      let h = total-set (λ (u : View S E). if u.live then 1 else 0) s.views id v both at in
-      let l = total-set (λ (u : View S E). if u.live then 1 else 0) (set s.views id both) other w (gone blank) there in
-      let t = live_count w live' in
-      let m = length-set (set s.views id both) other (gone blank) in let n = length-set s.views id both in
-      let j = length-append c.joined ((w.number, w.made) ∷ []) in
-      let o = k.out in omega arith
+    rooted = (
+      both,
+      subst (λ (n : ℕ). get_elem? (set (set s.views id both) other (gone blank)) n ≡ some both) index
+          (set_else (set s.views id both) other id (gone blank) (λ o. ne (sym o)) ∙ set_here s.views id both (at_below s.views id v at)),
+      live,
     );
+    out = (
+        let h = total-set (λ (u : View S E). if u.live then 1 else 0) s.views id v both at in
+        let l = total-set (λ (u : View S E). if u.live then 1 else 0) (set s.views id both) other w (gone blank) there in
+        let t = live_count w live' in
+        let m = length-set (set s.views id both) other (gone blank) in let n = length-set s.views id both in
+        let j = length-append c.joined ((w.number, w.made) ∷ []) in
+        let o = k.out in omega arith
+        );
     past = record { long = k.past.long; last = k.past.last; ordered = k.past.ordered };
     stages = seats_two (λ j u. FitsStage (one_joined c w) u.seen u.stage) s.views id other both (gone blank)
         (subst (λ (stage : Stage). FitsStage (one_joined c w) both.seen stage) (sym free) tt)
@@ -340,28 +348,33 @@ module _ {T S E : Type 0} (state : T → S) (entries : S → List E) (maker : E 
     home = λ none. k.home (λ i u e. dite (ℕ_discrete i id)
         (λ same h. let q : u.stage ≡ Turn h.0 = h.1 in let p : u.stage ≡ Idle = ap (λ (x : View S E). x.stage) (one_at s.views i id u v e at same) ∙ free in cc)
         (λ n. dite (ℕ_discrete i other)
-            (λ same h. let q : u.stage ≡ Turn h.0 = h.1 in let p : u.stage ≡ Idle = ap (λ (x : View S E). x.stage) (one_at s.views i other u w e at' same) ∙ free' in cc)
-            (λ m. none i u (set_else (set s.views id both) other i (gone blank) m ∙ (set_else s.views id i both n ∙ e)))));
+        (λ same h. let q : u.stage ≡ Turn h.0 = h.1 in let p : u.stage ≡ Idle = ap (λ (x : View S E). x.stage) (one_at s.views i other u w e at' same) ∙ free' in cc)
+        (λ m. none i u (set_else (set s.views id both) other i (gone blank) m ∙ (set_else s.views id i both n ∙ e)))));
     numbers = record {
       joined = λ p h. ⊎_elim
           (λ old. k.numbers.joined p old)
           (λ q. subst (λ (x : ℕ × List E). (x.0 < c.limit) × (made_by maker x.0 (entries c.now) ≡ x.1)) q (below, (k.seats other w at' live').own))
           (Contains-push_cases c.joined (w.number, w.made) p h);
       elder = k.numbers.elder;
-      unborn = k.numbers.unborn
-    }
+      unborn = k.numbers.unborn;
+    };
   }
     where
       c : Course S E
       c = k.course
+
       both : View S E
       both = joined_root v w
+
       index : id ≡ 0
       index = root_index s k id v at live above
+
       there : get_elem? (set s.views id (joined_root v w)) other ≡ some w
       there = set_else s.views id other (joined_root v w) ne ∙ at'
+
       below : w.number < k.course.limit
       below = let n : w.number ≡ first + other = (k.seats other w at' live').numbered in let g = k.given in let b = at_below s.views other w at' in omega arith
+
       held : (j : ℕ) (u : View S E) → get_elem? (set (set s.views id (joined_root v w)) other (gone blank)) j ≡ some u → Holder s.views j u
       held = seats_two (Holder s.views) s.views id other (joined_root v w) (gone blank)
           (λ t h. (v, at, h))
@@ -379,19 +392,19 @@ module _ {T S E : Type 0} (state : T → S) (entries : S → List E) (maker : E 
       dite (ℕ_discrete i id)
       (λ same. let p : u.stage ≡ Idle = ap (λ (x : View S E). x.stage) (one_at s.views i id u v e at same) ∙ free in cc)
       (λ ne. ⊎_elim
-          (λ on.
-              let f = k.seats id v at live in
-              let index = root_index s k id v at live above in
-              let r = f.root index in
-              let limit : v.next ≡ k.course.limit = r.0 in
-              let j : length v.joined ≡ length k.course.joined = ap (λ (js : List (ℕ × List E)). length js) r.1 in
-              let number : v.number ≡ first + id = f.numbered in
-              let two = total-two (λ (x : View S E). if x.live then 1 else 0) s.views i id u v ne e at in
-              let a = live_count u on in let b = live_count v live in
-              let g = k.given in let o = k.out in
-              absurd (omega arith))
-          (λ off. let p : u.stage ≡ Idle = k.idle i u e off in cc)
-          (live_or_not u.live))
+      (λ on.
+      let f = k.seats id v at live in
+      let index = root_index s k id v at live above in
+      let r = f.root index in
+      let limit : v.next ≡ k.course.limit = r.0 in
+      let j : length v.joined ≡ length k.course.joined = ap (λ (js : List (ℕ × List E)). length js) r.1 in
+      let number : v.number ≡ first + id = f.numbered in
+      let two = total-two (λ (x : View S E). if x.live then 1 else 0) s.views i id u v ne e at in
+      let a = live_count u on in let b = live_count v live in
+      let g = k.given in let o = k.out in
+      absurd (omega arith))
+      (λ off. let p : u.stage ≡ Idle = k.idle i u e off in cc)
+      (live_or_not u.live))
 
   pub closes : (id : ℕ) (v : View S E) (ws : List ℕ) (xs : List (Option T)) → v.live ≡ true → v.stage ≡ Idle → 0 < v.next → v.number + 1 + length v.joined ≡ v.next → Final (Seen Rule id v) ws xs
       → (x : T) × (get_elem? xs 0 ≡ some (Some x)) × Closes state entries maker follows start v x
@@ -415,5 +428,5 @@ module _ {T S E : Type 0} (state : T → S) (entries : S → List E) (maker : E 
             own = ap (λ (y : S). made_by maker v.number (entries y)) same ∙ f.own;
             joined = λ p h. ap (λ (y : S). made_by maker p.0 (entries y)) same ∙ (k.numbers.joined p (subst (λ (js : List (ℕ × List E)). Contains js p) r.1 h)).1;
             elder = λ n b. ap (λ (y : S). made_by maker n (entries y)) same ∙ k.numbers.elder n (omega arith);
-            unborn = λ n b. ap (λ (y : S). made_by maker n (entries y)) same ∙ k.numbers.unborn n (omega arith)
+            unborn = λ n b. ap (λ (y : S). made_by maker n (entries y)) same ∙ k.numbers.unborn n (omega arith);
           }

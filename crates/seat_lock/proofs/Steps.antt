@@ -102,14 +102,13 @@ module _ {T S E : Type 0} (state : T → S) (entries : S → List E) (maker : E 
 
   pub draws : (slots id : ℕ) (m : Me (Option T) (View S E)) → m.0.live ≡ true → m.0.stage ≡ Idle → Allows Rule slots id m 1 (λ n. (n + 1) % 2 ^ 64) (drew (step 0 0 0 0 none) m)
   draws slots id m live free s k deep at small =
-      let c = k.course in
-      (
+      let c = k.course in (
         staged m.0 (Waiting c.drawn),
         keeps,
         tt,
         subst (λ (ws : List ℕ). Rule (record { words = ws; homes = s.homes; views = set s.views id (staged m.0 (Waiting c.drawn)) }))
-        (word_drawn s.words (length (entries c.now)) c.drawn (c.served % 2 ^ 64) k.words)
-        (drew_kept s k id m.0 at live free),
+            (word_drawn s.words (length (entries c.now)) c.drawn (c.served % 2 ^ 64) k.words)
+            (drew_kept s k id m.0 at live free),
         (c.drawn, ap (λ (ws : List ℕ). slice_index ws 1) k.words, refl),
       )
 
@@ -158,7 +157,7 @@ module _ {T S E : Type 0} (state : T → S) (entries : S → List E) (maker : E 
       let below = at_below c.log v.seen.at v.seen.state f.seen in
       record {
         later = subst (λ (y : S). follows y v.seen.state) (sym same) (k.past.ordered v.seen.at c.clock v.seen.state c.now (let l : length c.log ≡ c.clock + 1 = k.past.long in omega arith) f.seen k.past.last);
-        own = ap (λ (y : S). made_by maker v.number (entries y)) same ∙ f.own
+        own = ap (λ (y : S). made_by maker v.number (entries y)) same ∙ f.own;
       }
 
   unchanged : (s : State (Option T) (View S E)) (k : Rule s) (i id : ℕ) (v : View S E) → i < 3 → get_elem? s.views id ≡ some v
@@ -176,17 +175,16 @@ module _ {T S E : Type 0} (state : T → S) (entries : S → List E) (maker : E 
   hits slots id m t live waits s k at found =
       let c = k.course in
       let served = served_is s k id m.0 t at waits found in
-      let h = k.home (turn_free s k id m.0 t at waits served) in
-      (
+      let h = k.home (turn_free s k id m.0 t at waits served) in (
         sees (staged m.0 (Turn t)) (moment c.clock c.now),
         takes 0 (Some h.0),
         h.1,
         subst (λ (ws : List ℕ). Rule (record { words = ws; homes = set s.homes 0 none; views = set s.views id (sees (staged m.0 (Turn t)) (moment c.clock c.now)) }))
-        (sym k.words ∙ sym (word_same s.words (length (entries c.now)) (c.drawn % 2 ^ 64) (c.served % 2 ^ 64) 2 k.words (omega arith)))
-        (found_kept s k id m.0 t at live waits served),
+            (sym k.words ∙ sym (word_same s.words (length (entries c.now)) (c.drawn % 2 ^ 64) (c.served % 2 ^ 64) 2 k.words (omega arith)))
+            (found_kept s k id m.0 t at live waits served),
         record {
           hit = λ e. (h.0, c.clock, next_is s k id m.0 h.0 at live h.2, ap (λ (y : S). (sees (staged m.0 (Turn t)) (moment c.clock y), (0, Some h.0) ∷ m.1)) (sym h.2));
-          miss = λ ne. absurd (ne found)
+          miss = λ ne. absurd (ne found);
         },
       )
 
@@ -218,7 +216,7 @@ module _ {T S E : Type 0} (state : T → S) (entries : S → List E) (maker : E 
   ordered_in : (c : Course S E) (j : ℕ) (v : View S E) → IsCourse follows c → Fits entries maker first c j v → IsOrdered follows v
   ordered_in c j v past f = record {
     rising = λ a b ha hb le. past.ordered a.at b.at a.state b.state le (f.remembers a ha).0 (f.remembers b hb).0;
-    highest = λ a ha. past.ordered a.at v.seen.at a.state v.seen.state (f.remembers a ha).1 (f.remembers a ha).0 f.seen
+    highest = λ a ha. past.ordered a.at v.seen.at a.state v.seen.state (f.remembers a ha).1 (f.remembers a ha).0 f.seen;
   }
 
   abbrev next_course : Course S E → S → Course S E
@@ -271,17 +269,16 @@ module _ {T S E : Type 0} (state : T → S) (entries : S → List E) (maker : E 
   raises itself chain slots id m t y more live turn held next only count fits s k deep at small =
       let c = k.course in
       let same = sees_now s k id m.0 t at live turn in
-      let past = longer_course follows itself chain c (state y) k.past (subst (λ (x : S). follows (state y) x) same next) in
-      (
+      let past = longer_course follows itself chain c (state y) k.past (subst (λ (x : S). follows (state y) x) same next) in (
         left_view c m.0 (state y),
         keeps,
         tt,
         subst (λ (ws : List ℕ). Rule (record { words = ws; homes = s.homes; views = set s.views id (left_view c m.0 (state y)) }))
-        (word_raised s.words (length (entries c.now)) (c.drawn % 2 ^ 64) (c.served % 2 ^ 64) more (length (entries (state y))) k.words (ap (λ (x : S). length (entries x) + more) (sym same) ∙ count) fits)
-        (left_kept s k id m.0 t (state y) at live turn past (subst (λ (x : S). OnlyMade maker m.0.number (entries x) (entries (state y))) same only)),
+            (word_raised s.words (length (entries c.now)) (c.drawn % 2 ^ 64) (c.served % 2 ^ 64) more (length (entries (state y))) k.words (ap (λ (x : S). length (entries x) + more) (sym same) ∙ count) fits)
+            (left_kept s k id m.0 t (state y) at live turn past (subst (λ (x : S). OnlyMade maker m.0.number (entries x) (entries (state y))) same only)),
         λ x e. record {
           left = (c.clock + 1, ap (λ (z : T). (left_view c m.0 (state z), m.1)) (same_value m.1 x y e held));
-          ordered = ordered_in (next_course c (state y)) id (left_view c m.0 (state y)) past (left_fits s k id m.0 (state y) at live)
+          ordered = ordered_in (next_course c (state y)) id (left_view c m.0 (state y)) past (left_fits s k id m.0 (state y) at live);
         },
       )
 
@@ -305,15 +302,14 @@ module _ {T S E : Type 0} (state : T → S) (entries : S → List E) (maker : E 
   pub passes : (slots id : ℕ) (m : Me (Option T) (View S E)) (t : ℕ) (y : T) → m.0.live ≡ true → m.0.stage ≡ Turn t → m.1 ≡ (0, Some y) ∷ [] → state y ≡ m.0.seen.state
       → Allows Rule slots id m 2 (λ n. (n + 1) % 2 ^ 64) (passed (step 0 0 0 0 none) m)
   passes slots id m t y live turn held same s k deep at small =
-      let c = k.course in
-      (
+      let c = k.course in (
         staged m.0 Idle,
         gives,
         tt,
         subst (λ (hand : List (ℕ × Option T)). Rule (stepped s 2 ((slice_index s.words 2 + 1) % 2 ^ 64) id hand (staged m.0 Idle) gives)) (sym held)
-        (subst (λ (ws : List ℕ). Rule (record { words = ws; homes = set s.homes 0 (some (Some y)); views = set s.views id (staged m.0 Idle) }))
-        (word_passed s.words (length (entries c.now)) (c.drawn % 2 ^ 64) c.served k.words)
-        (passed_kept s k id m.0 t y at live turn same)),
+            (subst (λ (ws : List ℕ). Rule (record { words = ws; homes = set s.homes 0 (some (Some y)); views = set s.views id (staged m.0 Idle) }))
+            (word_passed s.words (length (entries c.now)) (c.drawn % 2 ^ 64) c.served k.words)
+            (passed_kept s k id m.0 t y at live turn same)),
         ap (λ (hand : List (ℕ × Option T)). (staged m.0 Idle, carried_after hand gives)) held,
       )
 
@@ -333,12 +329,10 @@ module _ {T S E : Type 0} (state : T → S) (entries : S → List E) (maker : E 
       omega arith
 
   pub learns : (slots id : ℕ) (m : Me (Option T) (View S E)) → m.0.live ≡ true → Allows Rule slots id m 0 (λ n. n) (learned follows (step 0 0 0 0 none) m)
-  learns slots id m live s k deep at small =
-      (
-        m.0,
-        keeps,
-        tt,
-        unchanged s k 0 id m.0 (omega arith) at,
-        (refl, ordered_in k.course id m.0 k.past (k.seats id m.0 at live), λ above. root_tally s k id m.0 at live above),
-      )
-
+  learns slots id m live s k deep at small = (
+    m.0,
+    keeps,
+    tt,
+    unchanged s k 0 id m.0 (omega arith) at,
+    (refl, ordered_in k.course id m.0 k.past (k.seats id m.0 at live), λ above. root_tally s k id m.0 at live above),
+  )

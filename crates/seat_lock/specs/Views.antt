@@ -1,5 +1,5 @@
 -- What a seat knows, and what each call makes of it.
-use Rattle.std.specs.Prelude.{ℕ, ◌+◌, ◌-◌, ◌^◌, ◌<◌, ◌≤◌, ◌==◌, Bool, true, false, Option, Some, None, List, [], ◌∷◌, ◌++◌, length, nat_le, if◌then◌else◌}
+use Rattle.std.specs.Prelude.{◌≡◌, ℕ, ◌+◌, ◌-◌, ◌^◌, ◌<◌, ◌≤◌, ◌==◌, Bool, true, false, Option, Some, None, List, [], ◌∷◌, ◌++◌, length, nat_le, if◌then◌else◌}
 use Rattle.std.specs.List.{filter, Contains}
 use Rattle.seat_lock.specs.declared.view.Moment.{Moment}
 use Rattle.seat_lock.specs.declared.view.View.{View}
@@ -66,6 +66,10 @@ module _ {S E : Type 0} where
   -- a seat that was joined
   abbrev pub gone : S → View S E
   gone blank = record (newcomer 0 (moment 0 blank)) { live = false }
+
+  -- the seat has the number that it had, and as many seats are out and joined
+  abbrev pub IsSameSeat : View S E → View S E → Type 0
+  IsSameSeat v w = (w.number ≡ v.number) × (w.next ≡ v.next) × (w.joined ≡ v.joined)
 
   -- only the root knows a next number
   abbrev pub IsRoot : View S E → Type 0

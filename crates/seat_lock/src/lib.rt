@@ -8,6 +8,7 @@
 mod counted;
 mod lock;
 mod plays;
+#[cfg(test)]
 mod tests;
 mod view;
 

@@ -15,8 +15,11 @@ use std::sync::Wait;
 
 // The words of the table, and its slot.
 const HISTORY: usize = 0;
+
 const NEXT_TICKET: usize = 1;
+
 const SERVED_TICKET: usize = 2;
+
 const VALUE: usize = 0;
 
 type Place<V> = atomic_table::Seat<Option<V>, View<<V as Counted>::State, <V as Counted>::Entry>>;

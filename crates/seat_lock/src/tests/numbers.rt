@@ -20,6 +20,7 @@ struct Numbers {
 
 impl Counted for Numbers {
     type State = LinkedList<u32>;
+
     type Entry = u32;
 
     ghost state = { λ n. n.list.items };
@@ -71,14 +72,13 @@ fn fill<R: Wait>(
     let number = seat.number();
     let mut added = 0;
     for _ in 0..turns {
-        let outcome = lock
-            .with(
-                rt,
-                &mut seat,
-                |numbers: &mut Numbers| -> Result<(), AllocError>
-                    ensures { numbers.new.list.items ≡ with_added (is_ok result) number numbers.old.list.items }
-                { numbers.add(number) },
-            );
+        let outcome = lock.with(
+            rt,
+            &mut seat,
+            |numbers: &mut Numbers| -> Result<(), AllocError>
+                ensures { numbers.new.list.items ≡ with_added (is_ok result) number numbers.old.list.items }
+            { numbers.add(number) },
+        );
         if outcome.is_ok() {
             added += 1;
         }
@@ -129,4 +129,47 @@ fn no_numbers(alloc: Global) -> Numbers
     Numbers {
         list: Vec::new(alloc),
     }
+}
+
+#[test]
+fn two_threads_take_a_thousand_turns_each(rt: HostRuntime) -> Result<(), Fail> {
+    let (one, two, list) = filled_by_two(&rt, rt.alloc(), 1000).ok_or("no memory")?;
+    assert_eq!(rt; (one, two), (1000, 1000));
+    assert_eq!(rt; list.len(), 2000);
+    assert_eq!(rt; list.iter().filter(|n| **n == 1).count(), 1000);
+    assert_eq!(rt; list.iter().filter(|n| **n == 2).count(), 1000);
+    Ok(())
+}
+
+#[test]
+fn seats_are_numbered_and_counted(rt: HostRuntime) -> Result<(), Fail> {
+    let alloc: Global = rt.alloc();
+    let Ok((lock, mut root)) = SeatLock::new(alloc, no_numbers(alloc), 7) else {
+        return Err(Fail::from("no memory"));
+    };
+    assert!(rt; root.number() == 7 && root.seen() == 0 && root.out() == 0 && lock.can_split(&root));
+    let seat = lock.split(&mut root).unwrap();
+    assert!(rt; seat.number() == 8 && seat.out() == 0 && root.out() == 1 && !lock.can_split(&seat));
+    let (added, seat) = fill(&rt, &lock, seat, 3);
+    assert!(rt; added == 3 && seat.seen() == 3 && root.seen() == 0);
+    lock.join(&mut root, seat);
+    assert!(rt; root.seen() == 3 && root.out() == 0);
+    let Numbers { list } = lock.close(root);
+    assert_eq!(rt; list.as_slice(), [8, 8, 8].as_slice());
+    Ok(())
+}
+
+#[test]
+fn the_last_number_is_given(rt: HostRuntime) -> Result<(), Fail> {
+    let alloc: Global = rt.alloc();
+    let Ok((lock, mut root)) = SeatLock::new(alloc, no_numbers(alloc), u32::MAX - 1) else {
+        return Err(Fail::from("no memory"));
+    };
+    assert!(rt; lock.can_split(&root));
+    let last = lock.split(&mut root).unwrap();
+    assert!(rt; last.number() == u32::MAX && !lock.can_split(&root));
+    lock.join(&mut root, last);
+    let Numbers { list } = lock.close(root);
+    assert!(rt; list.is_empty());
+    Ok(())
 }

@@ -2,6 +2,7 @@
 ghost use Rattle.std.specs.Prelude.{◌≡◌, ℕ, ◌<◌, ◌^◌, true, false, [], None, Some, IsTrue, length, vec_len, refl};
 ghost use Rattle.std.proofs.Common.{◌∙◌};
 ghost use Rattle.seat_lock.specs.Lists.{StartsWith, StartsWith-itself, StartsWith-chain, with_added};
+ghost use Rattle.seat_lock.specs.Views.{IsSameSeat};
 ghost use Rattle.seat_lock.specs.Locks.{view, IsOf};
 
 use crate::{Counted, Seat, SeatLock};
@@ -36,6 +37,7 @@ struct Shelf {
 
 impl Counted for Shelf {
     type State = Standing;
+
     type Entry = Note;
 
     ghost state = { λ s. record { history = s.history.items; payloads = s.payloads.items; down = s.down; key = s.key } };
@@ -95,6 +97,7 @@ impl Shelf {
 fn put<R: Wait>(rt: &R, lock: &SeatLock<Shelf>, seat: &mut Seat<Shelf>, payload: u64) -> bool
     requires { IsOf lock.now seat.old }
     ensures ours { IsOf lock.now seat.new }
+    ensures same { IsSameSeat (view seat.old) (view seat.new) }
     ensures down { IsTrue (view seat.old).seen.state.down → result ≡ false }
     ensures key { (view seat.new).seen.state.key ≡ (view seat.old).seen.state.key }
 {
@@ -118,6 +121,7 @@ fn put<R: Wait>(rt: &R, lock: &SeatLock<Shelf>, seat: &mut Seat<Shelf>, payload:
 fn take_down<R: Wait>(rt: &R, lock: &SeatLock<Shelf>, seat: &mut Seat<Shelf>)
     requires { IsOf lock.now seat.old }
     ensures ours { IsOf lock.now seat.new }
+    ensures same { IsSameSeat (view seat.old) (view seat.new) }
     ensures down { IsTrue (view seat.new).seen.state.down }
 {
     lock.with(
@@ -125,7 +129,9 @@ fn take_down<R: Wait>(rt: &R, lock: &SeatLock<Shelf>, seat: &mut Seat<Shelf>)
         seat,
         |shelf: &mut Shelf|
             ensures { (shelf.new.history.items ≡ shelf.old.history.items) × (shelf.new.payloads.items ≡ shelf.old.payloads.items) × (shelf.new.down ≡ true) × (shelf.new.key ≡ shelf.old.key) }
-        { shelf.down = true; },
+        {
+            shelf.down = true;
+        },
     );
 }
 
@@ -134,6 +140,7 @@ fn take_down<R: Wait>(rt: &R, lock: &SeatLock<Shelf>, seat: &mut Seat<Shelf>)
 fn look<R: Wait>(rt: &R, lock: &SeatLock<Shelf>, seat: &mut Seat<Shelf>) -> (bool, usize)
     requires { IsOf lock.now seat.old }
     ensures ours { IsOf lock.now seat.new }
+    ensures same { IsSameSeat (view seat.old) (view seat.new) }
     ensures down { IsTrue (view seat.old).seen.state.down → IsTrue result.0 × (result.1 ≡ length (view seat.old).seen.state.history) }
 {
     lock.with(
@@ -144,4 +151,27 @@ fn look<R: Wait>(rt: &R, lock: &SeatLock<Shelf>, seat: &mut Seat<Shelf>) -> (boo
             ensures read { (result.0 ≡ shelf.old.down) × (result.1 ≡ length shelf.old.history.items) }
         { (shelf.down, shelf.history.len()) },
     )
+}
+
+#[test]
+fn a_shelf_that_was_seen_down_stays_down(rt: HostRuntime) -> Result<(), Fail> {
+    let alloc: Global = rt.alloc();
+    let Ok((lock, mut root)) = SeatLock::new(alloc, Shelf::new(alloc, 5), 0) else {
+        return Err(Fail::from("no memory"));
+    };
+    let mut seat = lock.split(&mut root).unwrap();
+    assert!(rt; put(&rt, &lock, &mut root, 10) && put(&rt, &lock, &mut seat, 20));
+    take_down(&rt, &lock, &mut seat);
+    assert!(rt; !put(&rt, &lock, &mut root, 30));
+    lock.join(&mut root, seat);
+    assert!(rt; look(&rt, &lock, &mut root) == (true, 2));
+    let Shelf {
+        history,
+        payloads,
+        down,
+        key,
+    } = lock.close(root);
+    assert!(rt; history.len() == 2 && down && key == 5);
+    assert_eq!(rt; payloads.as_slice(), [10, 20].as_slice());
+    Ok(())
 }

@@ -11,8 +11,7 @@ join_seat-requires g c =
     let root = c.args.root.now in
     let seat = c.args.seat in
     let other = c.into_place.result in
-    let same : other ≡ seat.place = c.into_place.ensures in
-    (
+    let same : other ≡ seat.place = c.into_place.ensures in (
       c.requires.ours.0,
       rw same c.requires.ours.1,
       rw same seat.empty,
@@ -26,8 +25,7 @@ load-requires g c =
     let table = c.args.self.now.table.shared in
     let words = c.args.self.now.sized.0 in
     let root = c.args.root.now in
-    let place = c.join_seat.new.seat in
-    (
+    let place = c.join_seat.new.seat in (
       c.join_seat.ensures.0 ∙ c.requires.ours.0,
       omega arith,
       learns_at t.state t.entries t.maker t.follows table.key.first (t.state table.key.start.value) table.table_id.slots place.id place.me (joined_root root.place.me.0 c.into_place.result.me.0) root.place.me.1 c.join_seat.ensures.2 root.live,

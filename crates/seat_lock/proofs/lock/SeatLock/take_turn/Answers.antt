@@ -16,8 +16,7 @@ load-served-requires g c =
     let table = c.args.self.now.table.shared in
     let words = c.args.self.now.sized.0 in
     let kept = c.loop.invariant in
-    let place = c.loop.place in
-    (
+    let place = c.loop.place in (
       kept.0 ∙ c.requires.ours,
       omega arith,
       looks_at t.state t.entries t.maker t.follows table.key.first (t.state table.key.start.value) table.table_id.slots place.id place.me c.args.place.now.me.0 kept.2.0 kept.2.1 c.requires.idle.0,
@@ -63,8 +62,7 @@ pub loop-preserved : goal.loop-preserved
 loop-preserved g c =
     let t = g.V.Counted in
     let kept = c.loop.invariant in
-    let v = c.args.place.now.me.0 in
-    (
+    let v = c.args.place.now.me.0 in (
       c.load-served.ensures.0 ∙ kept.0,
       c.load-served.ensures.1 ∙ kept.1,
       (

@@ -44,8 +44,7 @@ returns-clause-turn g c =
     let found = c.take_turn-value.ensures.found in
     let left = c.end_turn.ensures.left in
     let v = c.args.seat.now.place.me.0 in
-    let gave : FnOnceReturnsAtMut g.F.FnOnce c.args.f c.take_turn-value.result c.f-outcome.result c.f-outcome.new.arg2 = record { shown = _; shows = refl; left = _; met = c.f-outcome.ensures; leaves = refl } in
-    (
+    let gave : FnOnceReturnsAtMut g.F.FnOnce c.args.f c.take_turn-value.result c.f-outcome.result c.f-outcome.new.arg2 = record { shown = _; shows = refl; left = _; met = c.f-outcome.ensures; leaves = refl } in (
       c.take_turn-value.result,
       c.f-outcome.new.arg2,
       found.1,

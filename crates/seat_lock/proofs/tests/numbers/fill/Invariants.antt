@@ -8,5 +8,5 @@ invariant-loop g l = record {
   count : l.added ≤ l.counter;
   made : (view l.seat).made ≡ (view l.fn.seat).made ++ replicate l.added (view l.fn.seat).number;
   number : (view l.seat).number ≡ (view l.fn.seat).number;
-  next : (view l.seat).next ≡ (view l.fn.seat).next
+  next : (view l.seat).next ≡ (view l.fn.seat).next;
 }
