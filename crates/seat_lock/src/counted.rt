@@ -1,9 +1,11 @@
 // What the lock asks of the value that it guards.
 ghost use Rattle.std.specs.Prelude.{◌≡◌, ◌++◌, ℕ, List, Option, length};
 
-/// A value whose state has a list of entries that grows, each with the number of the seat that made it, or none.
+/// A value whose state has a list of entries that only grows, each with the number of the seat that made it, or none.
+///
+/// An implementation says what the state is, and when a state may come after another, and proves three laws of that.
 pub trait Counted {
-    /// The state of the value, as plain data that exists in proofs alone.
+    /// The state of the value. It is plain data that no code holds, so its lists are `LinkedList`s.
     type State;
 
     /// One entry of a state's list.
@@ -16,18 +18,22 @@ pub trait Counted {
 
     ghost entries: { Self.State → List Self.Entry };
 
+    // The number of the seat that made the entry, or none.
     ghost maker: { Self.Entry → Option ℕ };
 
-    // The first state may come after the second.
+    // The first state is the second one or may come after it.
     ghost follows: { Self.State → Self.State → Type 0 };
 
     /// How many entries there are.
     fn count(&self) -> u32
         ensures { result ≡ length (entries (state self.now)) };
 
+    // A state follows itself.
     ghost itself: { (s : Self.State) → follows s s };
 
+    // Where a first state follows a second and the second a third, the first follows the third.
     ghost chain: { (s t u : Self.State) → follows s t → follows t u → follows s u };
 
+    // Where a state follows another, its list begins with the other's.
     ghost grows: { (s t : Self.State) → follows s t → (rest : List Self.Entry) × (entries s ≡ entries t ++ rest) };
 }

@@ -24,7 +24,7 @@ const VALUE: usize = 0;
 
 type Place<V> = atomic_table::Seat<Option<V>, View<<V as Counted>::State, <V as Counted>::Entry>>;
 
-/// A value that seats take turns at.
+/// A value that seats take turns at. Each call that is handed a seat requires that it is one of this lock.
 #[derive(Drop)]
 pub struct SeatLock<V: Counted> {
     table: Table<Option<V>, View<V::State, V::Entry>, Origin<V>, Turns, Global>,
@@ -173,7 +173,10 @@ impl<V: Counted> SeatLock<V> {
         shared.wake_all(SERVED_TICKET);
     }
 
-    /// Waits for the turn, lends the value to `f`, and passes the turn.
+    /// Waits for the turn, lends the value to `f`, and passes the turn. It sleeps while it waits.
+    ///
+    /// What `f` finds follows what the seat has seen, and has just the entries of the seat's number that the seat made.
+    /// `f` may add entries of this seat's number or of none. What it leaves is what the seat has seen afterwards.
     pub fn with<O, F: FnOnce(&mut V) -> O, R: Wait>(&self, rt: &R, seat: &mut Seat<V>, f: F) -> O
         requires ours { IsOf self.now seat.old }
         requires call { (x : V) → IsNext V.state V.entries V.maker V.follows (view seat.old) x → FnOnceTakesAtMut F.FnOnce f x }
@@ -194,7 +197,8 @@ impl<V: Counted> SeatLock<V> {
         outcome
     }
 
-    /// Takes in a seat that was split from the root. The root has then seen the later of what the two have seen.
+    /// Takes in a seat that was split from the root. The root has then seen the later of what the two have seen, and of
+    /// any two states that they remember one follows the other. It waits for nobody.
     pub fn join(&self, root: &mut Seat<V>, seat: Seat<V>)
         requires ours { IsOf self.now root.old × IsOf self.now seat }
         requires root { IsRoot (view root.old) }
@@ -209,7 +213,7 @@ impl<V: Counted> SeatLock<V> {
         root.joined += 1;
     }
 
-    /// Ends the lock, and gives the value back.
+    /// Ends the lock, and gives the value back. No seat may be out, as `out` tells. It waits for nobody.
     pub fn close(self, root: Seat<V>) -> V
         requires ours { IsOf self root }
         requires root { IsRoot (view root) }
