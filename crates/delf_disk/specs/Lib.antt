@@ -1,5 +1,10 @@
 pub mod Areas
-pub mod Images
 pub mod Causes
-pub mod Plain
+pub mod Content
+pub mod Counts
+pub mod EpochLaws
+pub mod Epochs
+pub mod Images
+pub mod Laying
 pub mod Moments
+pub mod Plain

@@ -5,9 +5,14 @@
 #![tactic(auto)]
 
 mod area;
+mod content;
+mod counts;
 mod disk;
 mod lists;
+mod mem_disk;
+mod past;
 
 pub use area::{Area, Failed, Order};
 pub use disk::{Disk, Rig};
+pub use mem_disk::MemDisk;
 pub use lists::{Bytes, Numbers};
