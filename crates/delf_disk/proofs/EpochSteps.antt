@@ -105,7 +105,7 @@ end_is_image (Cut pick) ws stable = inr (picked_reached pick ws stable)
 
 pub end_moves : (es : List Epoch) (e : Epoch) (first stable : Areas) → stable_after es first ≡ stable
     → Moves Same (moment_of es e.writes.items) (moment_of (es ++ e ∷ []) []) (Image e.writes.items stable) (Image [] (after_end e.end e.writes.items stable))
-        (LeftSince es e.writes.items first) (LeftSince (es ++ e ∷ []) [] first)
+    (LeftSince es e.writes.items first) (LeftSince (es ++ e ∷ []) [] first)
 end_moves es e first stable base =
     let ws = e.writes.items in
     let next = after_end e.end ws stable in

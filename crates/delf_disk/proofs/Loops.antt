@@ -28,8 +28,8 @@ pub lands_more : (writes : List Write) (i : ℕ) (w : Write) (start old new : Co
     → LandsSoFar writes i start old → areas_of new ≡ laid w (areas_of old) → KeepsRoom old new → LandsSoFar writes (i + 1) start new
 lands_more writes i w start old new within is so_far areas room = record {
   rest = ap (λ c. laid_all (drop (i + 1) writes) c) areas
-    ∙ sym (ap (λ ws. laid_all ws (areas_of old)) (drop_more writes i w within ∙ ap (λ v. v ∷ drop (i + 1) writes) (sym is)))
-    ∙ so_far.rest;
+      ∙ sym (ap (λ ws. laid_all ws (areas_of old)) (drop_more writes i w within ∙ ap (λ v. v ∷ drop (i + 1) writes) (sym is)))
+      ∙ so_far.rest;
   room = keeps_room-then start old new so_far.room room;
 }
 
@@ -42,7 +42,7 @@ pub leaves_more : (pick rest : ℕ) (writes : List Write) (i : ℕ) (w : Write) 
     → LeavesSoFar pick rest writes i start old → areas_of new ≡ left_of (rest % 4) w (areas_of old) → KeepsRoom old new → LeavesSoFar pick (rest / 4) writes (i + 1) start new
 leaves_more pick rest writes i w start old new within is so_far areas room = record {
   rest_is = ap (λ c. picked (rest / 4) (drop (i + 1) writes) c) areas
-    ∙ sym (ap (λ ws. picked rest ws (areas_of old)) (drop_more writes i w within ∙ ap (λ v. v ∷ drop (i + 1) writes) (sym is)))
-    ∙ so_far.rest_is;
+      ∙ sym (ap (λ ws. picked rest ws (areas_of old)) (drop_more writes i w within ∙ ap (λ v. v ∷ drop (i + 1) writes) (sym is)))
+      ∙ so_far.rest_is;
   room = keeps_room-then start old new so_far.room room;
 }

@@ -6,5 +6,6 @@ pub mod EpochLaws
 pub mod Epochs
 pub mod Images
 pub mod Laying
+pub mod MemDisk
 pub mod Moments
 pub mod Plain

@@ -1,5 +1,6 @@
-ghost use Rattle.std.specs.Prelude.{◌≡◌, ◌-◌, ◌↔◌, [], IsTrue, if◌then◌else◌};
+ghost use Rattle.std.specs.Prelude.{◌≡◌, ◌-◌, ◌≤◌, ◌↔◌, [], IsTrue, MatchBool};
 ghost use Rattle.delf_disk.specs.Counts.{next, IsSetToFail};
+ghost use Rattle.delf_disk.specs.Plain.{NextCount};
 
 use crate::area::Order;
 
@@ -24,7 +25,8 @@ impl Counts {
         ensures is_set { IsTrue result ↔ IsSetToFail self.old.fails.items self.old.calls self.old.fuse }
         ensures calls { self.new.calls ≡ next self.old.calls }
         ensures fuse { self.new.fuse ≡ self.old.fuse - 1 }
-        ensures faults { self.new.faults ≡ (if result then next self.old.faults else self.old.faults) }
+        ensures faults { MatchBool result (NextCount self.old.faults self.new.faults) (self.new.faults ≡ self.old.faults) }
+        ensures later { self.old.faults ≤ self.new.faults }
         ensures fails { self.new.fails.items ≡ self.old.fails.items }
         ensures starved { self.new.starved ≡ self.old.starved }
         ensures order { self.new.order ≡ self.old.order }
@@ -41,8 +43,8 @@ impl Counts {
 
     /// Counts a call that was refused memory, which is a fault too.
     pub(crate) fn starve(&mut self)
-        ensures starved { self.new.starved ≡ next self.old.starved }
-        ensures faults { self.new.faults ≡ next self.old.faults }
+        ensures starved { NextCount self.old.starved self.new.starved }
+        ensures faults { NextCount self.old.faults self.new.faults }
         ensures calls { self.new.calls ≡ self.old.calls }
         ensures fuse { self.new.fuse ≡ self.old.fuse }
         ensures fails { self.new.fails.items ≡ self.old.fails.items }
@@ -58,7 +60,7 @@ impl Counts {
         ensures fails { self.new.fails.items ≡ [] }
         ensures fuse { self.new.fuse ≡ 0 }
         ensures order { self.new.order ≡ Order.CutPower pick }
-        ensures orders { self.new.orders ≡ next self.old.orders }
+        ensures orders { NextCount self.old.orders self.new.orders }
         ensures calls { self.new.calls ≡ self.old.calls }
         ensures faults { self.new.faults ≡ self.old.faults }
         ensures starved { self.new.starved ≡ self.old.starved }
@@ -74,7 +76,7 @@ impl Counts {
         ensures fails { self.new.fails.items ≡ self.old.fails.items }
         ensures fuse { self.new.fuse ≡ n }
         ensures order { self.new.order ≡ Order.FailAfter n }
-        ensures orders { self.new.orders ≡ next self.old.orders }
+        ensures orders { NextCount self.old.orders self.new.orders }
         ensures calls { self.new.calls ≡ self.old.calls }
         ensures faults { self.new.faults ≡ self.old.faults }
         ensures starved { self.new.starved ≡ self.old.starved }

@@ -14,5 +14,5 @@ mod past;
 
 pub use area::{Area, Failed, Order};
 pub use disk::{Disk, Rig};
-pub use mem_disk::MemDisk;
 pub use lists::{Bytes, Numbers};
+pub use mem_disk::MemDisk;

@@ -1,4 +1,8 @@
+ghost use Rattle.std.specs.Prelude.{◌≡◌, ◌<◌, [], ◌∷◌, ◌++◌, vec_len, vec_capacity};
+
 use crate::area::Area;
+use std::alloc::Global;
+use std::mem;
 
 /// A write that a disk in memory was told to make.
 #[derive(Drop)]
@@ -24,4 +28,14 @@ pub enum End {
 pub struct Epoch {
     pub(crate) writes: Vec<Write>,
     pub(crate) end: End,
+}
+
+// What is pending is over, since it became stable or the power was cut.
+pub(crate) fn end_epoch(alloc: Global, pending: &mut Vec<Write>, past: &mut Vec<Epoch>, end: End)
+    requires { vec_len past.old < vec_capacity past.old }
+    ensures past { (epoch : Epoch) × (epoch.writes.items ≡ pending.old.items) × (epoch.end ≡ end) × (past.new.items ≡ past.old.items ++ epoch ∷ []) }
+    ensures pending { pending.new.items ≡ [] }
+{
+    let writes = mem::replace(pending, Vec::new(alloc));
+    past.push_reserved(Epoch { writes, end });
 }
