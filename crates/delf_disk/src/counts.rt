@@ -1,8 +1,10 @@
-ghost use Rattle.std.specs.Prelude.{◌≡◌, ◌-◌, ◌≤◌, ◌↔◌, [], IsTrue, MatchBool};
+ghost use Rattle.std.specs.Prelude.{◌≡◌, ◌-◌, ◌≤◌, ◌↔◌, [], IsOk, IsTrue, MatchBool};
+ghost use Rattle.delf_disk.specs.Causes.{HasCause};
 ghost use Rattle.delf_disk.specs.Counts.{next, IsSetToFail};
 ghost use Rattle.delf_disk.specs.Plain.{NextCount};
 
-use crate::area::Order;
+use crate::area::{Failed, Order};
+use std::io;
 
 /// The calls and the orders of a disk in memory.
 #[derive(Drop)]
@@ -20,6 +22,21 @@ pub struct Counts {
 }
 
 impl Counts {
+    /// No call yet, and these are to fail.
+    pub(crate) fn of(fails: Vec<u64>) -> Counts
+        ensures { result ≡ record { fails = fails; calls = 0; fuse = 0; faults = 0; starved = 0; order = Order.Nothing; orders = 0 } }
+    {
+        Counts {
+            fails,
+            calls: 0,
+            fuse: 0,
+            faults: 0,
+            starved: 0,
+            order: Order::Nothing,
+            orders: 0,
+        }
+    }
+
     /// Counts one call, and says whether it's set to fail. One that is counts as a fault.
     pub(crate) fn takes_call(&mut self) -> bool
         ensures is_set { IsTrue result ↔ IsSetToFail self.old.fails.items self.old.calls self.old.fuse }
@@ -53,6 +70,26 @@ impl Counts {
     {
         self.starved = self.starved.saturating_add(1);
         self.faults = self.faults.saturating_add(1);
+    }
+
+    /// Counts a fault where a call of the system failed, and gives its answer.
+    pub(crate) fn take<T>(&mut self, answer: io::Result<T>) -> Result<T, Failed>
+        ensures cause { HasCause self.old.faults self.new.faults result }
+        ensures starved { self.new.starved ≡ self.old.starved }
+        ensures calls { self.new.calls ≡ self.old.calls }
+        ensures fuse { self.new.fuse ≡ self.old.fuse }
+        ensures fails { self.new.fails.items ≡ self.old.fails.items }
+        ensures order { self.new.order ≡ self.old.order }
+        ensures orders { self.new.orders ≡ self.old.orders }
+        ensures ok { IsOk answer → IsOk result }
+    {
+        match answer {
+            Ok(value) => Ok(value),
+            Err(_) => {
+                self.faults = self.faults.saturating_add(1);
+                Err(Failed)
+            }
+        }
     }
 
     /// Takes an order to cut the power, after which no call is set to fail.

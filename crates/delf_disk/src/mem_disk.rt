@@ -73,15 +73,7 @@ impl MemDisk {
             pending: Vec::new(alloc),
             stable,
             live,
-            counts: Counts {
-                fails,
-                calls: 0,
-                fuse: 0,
-                faults: 0,
-                starved: 0,
-                order: Order::Nothing,
-                orders: 0,
-            },
+            counts: Counts::of(fails),
         })
     }
 
