@@ -1,0 +1,5 @@
+pub mod Records
+pub mod Logs
+pub mod Steps
+pub mod Gates
+pub mod Place
