@@ -1,1 +1,3 @@
 mod Gate
+mod Rows
+mod Kept

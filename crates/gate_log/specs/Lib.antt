@@ -2,4 +2,6 @@ pub mod Records
 pub mod Logs
 pub mod Steps
 pub mod Gates
-pub mod Place
+pub mod Places
+pub mod View
+pub mod Sound

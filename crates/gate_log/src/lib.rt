@@ -6,3 +6,7 @@
 #![tactic(auto)]
 
 mod commit;
+mod line;
+mod log;
+
+pub use log::GateLog;

@@ -1,0 +1,25 @@
+-- Where the records of a log stand.
+use Rattle.std.specs.Prelude.{ℕ, ◌+◌, List, [], ◌∷◌, map}
+use Rattle.gate_log.specs.declared.log.Place.{Place}
+
+-- where records of these sizes end, if they begin at `at`
+abbrev pub end_from : ℕ → List (ℕ × ℕ) → ℕ
+end_from at [] = at
+end_from at (size ∷ sizes) = end_from (at + 7 + size.0 + size.1) sizes
+
+-- where their gates stand
+abbrev pub gates_from : ℕ → List (ℕ × ℕ) → List ℕ
+gates_from at [] = []
+gates_from at (size ∷ sizes) = at ∷ gates_from (at + 7 + size.0 + size.1) sizes
+
+abbrev pub size_at : Place → ℕ × ℕ
+size_at place = (place.head, place.payload)
+
+abbrev pub gate_at : Place → ℕ
+gate_at place = place.gate
+
+abbrev pub sizes_at : List Place → List (ℕ × ℕ)
+sizes_at places = map size_at places
+
+abbrev pub gates_at : List Place → List ℕ
+gates_at places = map gate_at places
