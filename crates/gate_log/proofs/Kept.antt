@@ -1,7 +1,7 @@
 -- The places that a log keeps, with one more.
 use Rattle.std.proofs.Common.{◌≡◌, ℕ, ◌+◌, List, [], ◌∷◌, ◌++◌, map, sym, ◌∙◌, ap, arith}
 use Rattle.std.proofs.lemmas.List.{map-append}
-use Rattle.gate_log.specs.declared.log.Place.{Place}
+use Rattle.gate_log.specs.declared.scan.Place.{Place}
 use Rattle.gate_log.specs.Places.{end_from, gates_from, size_at, gate_at, sizes_at, gates_at}
 use Rattle.gate_log.proofs.Rows.{end_from-push, gates_from-push}
 

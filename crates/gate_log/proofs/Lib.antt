@@ -1,3 +1,4 @@
 mod Gate
 mod Rows
 mod Kept
+mod Opened

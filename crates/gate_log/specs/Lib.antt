@@ -5,3 +5,5 @@ pub mod Gates
 pub mod Places
 pub mod View
 pub mod Sound
+pub mod Opening
+pub mod Looking

@@ -1,6 +1,6 @@
 -- Where the records of a log stand.
 use Rattle.std.specs.Prelude.{ℕ, ◌+◌, List, [], ◌∷◌, map}
-use Rattle.gate_log.specs.declared.log.Place.{Place}
+use Rattle.gate_log.specs.declared.scan.Place.{Place}
 
 -- where records of these sizes end, if they begin at `at`
 abbrev pub end_from : ℕ → List (ℕ × ℕ) → ℕ

@@ -6,7 +6,11 @@
 #![tactic(auto)]
 
 mod commit;
+mod fault;
+mod lengths;
 mod line;
 mod log;
+mod scan;
 
+pub use fault::LogFault;
 pub use log::GateLog;

@@ -9,15 +9,9 @@ ghost use Rattle.gate_log.specs.Steps.{MayAdd, Adds};
 
 use crate::commit::commit;
 use crate::line::lay;
+use crate::scan::Place;
 use delf_disk::{Area, Disk, Failed};
 use std::marker::Model;
-
-#[derive(Clone, Copy)]
-pub(crate) struct Place {
-    gate: u64,
-    head: u16,
-    payload: u32,
-}
 
 /// The records of one area. Of each it keeps the place and the lengths, and no bytes.
 ///
