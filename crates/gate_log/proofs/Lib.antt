@@ -2,3 +2,4 @@ mod Gate
 mod Rows
 mod Kept
 mod Opened
+pub mod Reading

@@ -1,5 +1,5 @@
 -- Where the records of a log stand.
-use Rattle.std.specs.Prelude.{ℕ, ◌+◌, List, [], ◌∷◌, map}
+use Rattle.std.specs.Prelude.{◌≡◌, ℕ, ◌+◌, List, [], ◌∷◌, map}
 use Rattle.gate_log.specs.declared.scan.Place.{Place}
 
 -- where records of these sizes end, if they begin at `at`
@@ -23,3 +23,8 @@ sizes_at places = map size_at places
 
 abbrev pub gates_at : List Place → List ℕ
 gates_at places = map gate_at places
+
+-- the places are those of records of these sizes from byte 8 on, which end here
+pub record AreTied (places : List Place) (end : ℕ) : Type 0 where
+  pub end_is : end ≡ end_from 8 (sizes_at places)
+  pub gates : gates_at places ≡ gates_from 8 (sizes_at places)

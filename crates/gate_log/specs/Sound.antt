@@ -1,7 +1,7 @@
 -- What a log keeps of its records.
-use Rattle.std.specs.Prelude.{◌≡◌, ℕ, ◌+◌, ◌*◌, ◌^◌, ◌<◌, ◌≤◌, vec_len, vec_capacity}
+use Rattle.std.specs.Prelude.{ℕ, ◌+◌, ◌*◌, ◌^◌, ◌<◌, ◌≤◌, vec_len, vec_capacity}
 use Rattle.gate_log.specs.declared.log.GateLog.TheInside.{Inside}
-use Rattle.gate_log.specs.Places.{end_from, gates_from, sizes_at, gates_at}
+use Rattle.gate_log.specs.Places.{sizes_at, AreTied}
 use Rattle.gate_log.specs.View.{LogView}
 
 abbrev pub view_of : Inside → LogView
@@ -9,8 +9,7 @@ view_of a = record { area = a.area; sizes = sizes_at a.places.items; spare = a.s
 
 -- 65,670 is the length of the longest record that is appended
 pub record IsSound (a : Inside) : Type 0 where
-  pub end : a.end ≡ end_from 8 (sizes_at a.places.items)
-  pub gates : gates_at a.places.items ≡ gates_from 8 (sizes_at a.places.items)
+  pub tied : AreTied a.places.items a.end
   pub room : vec_len a.places + a.spare ≤ vec_capacity a.places
   pub count : vec_len a.places + a.spare < 2 ^ 32
   pub reach : a.end + a.spare * 65670 < 2 ^ 63

@@ -5,13 +5,17 @@ ghost use Rattle.delf_disk.specs.Images.{Same};
 ghost use Rattle.delf_disk.specs.Plain.{Plain, SameKind};
 ghost use Rattle.delf_disk.specs.Moments.{Runs};
 ghost use Rattle.gate_log.specs.Opening.{CountsFailure};
-ghost use Rattle.gate_log.specs.Looking.{Looked};
+ghost use Rattle.gate_log.specs.Looking.{Looked, Scanned};
+ghost use Rattle.gate_log.specs.Places.{AreTied};
 
 use crate::commit::OPEN;
 use crate::fault::LogFault;
 use crate::lengths::{Lengths, lengths_of};
 use delf_disk::{Area, Disk};
 use std::alloc::Global;
+
+/// The most records that a log counts.
+const MOST_RECORDS: usize = u32::MAX as usize;
 
 /// Where a record stands: the place of its gate, and the lengths of its head and payload.
 #[derive(Clone, Copy)]
@@ -55,5 +59,40 @@ pub(crate) fn look<D: Disk>(disk: &mut D, area: Area, at: u64, len: u64) -> Resu
     match lengths_of(&start, room) {
         None => Err(LogFault::Broken { at }),
         Some(lengths) => Ok(Some(lengths)),
+    }
+}
+
+/// Goes through the records of an area that is longer than nine bytes, up to the first closed gate.
+pub(crate) fn scan_area<D: Disk>(alloc: Global, disk: &mut D, area: Area, len: u64) -> Result<Scan, LogFault>
+    requires longer { 9 < len }
+    requires small { len < 2 ^ 62 }
+    requires len { Plain (D.told disk.old) (D.honest disk.old) → len ≡ length (area_of area (D.seen disk.old)) }
+
+    ensures scanned { Plain (D.told disk.old) (D.honest disk.old)
+        → Scanned (take 8 (area_of area (D.seen disk.old))) (area_of area (D.seen disk.old)) result }
+    ensures tied { IfOk result (λ scan. AreTied scan.places.items scan.end) }
+    ensures count { IfOk result (λ scan. vec_len scan.places < 2 ^ 32) }
+    ensures within { IfOk result (λ scan. scan.end < len) }
+    ensures seen { Plain (D.told disk.old) (D.honest disk.old) → D.seen disk.new ≡ D.seen disk.old }
+    ensures any_moment { Plain (D.told disk.old) (D.honest disk.old)
+        → Runs D.moment D.may_leave D.left_since Same disk.old disk.new }
+    ensures kind { SameKind D.told D.honest D.order D.orders disk.old disk.new }
+    ensures cause { CountsFailure (D.faults disk.old) (D.faults disk.new) result }
+{
+    let mut places = Vec::new(alloc);
+    let mut at = 8;
+    'gates: loop {
+        let Some(lengths) = look(disk, area, at, len)? else {
+            return Ok(Scan { places, end: at });
+        };
+        if places.len() >= MOST_RECORDS {
+            return Err(LogFault::OutOfMemory);
+        }
+        places.push(Place {
+            gate: at,
+            head: lengths.head,
+            payload: lengths.payload,
+        })?;
+        at += 7 + u64::from(lengths.head) + u64::from(lengths.payload);
     }
 }

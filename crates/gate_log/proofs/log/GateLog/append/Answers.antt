@@ -10,7 +10,7 @@ use Rattle.gate_log.specs.Steps.{MayAdd, Adds}
 use Rattle.gate_log.specs.Places.{end_from, sizes_at}
 use Rattle.gate_log.specs.View.{LogView}
 use Rattle.gate_log.proofs.Rows.{length-body, stand_shut, may_add, adds, added_stands}
-use Rattle.gate_log.proofs.Kept.{sizes_at-push, end_pushed, gates_pushed}
+use Rattle.gate_log.proofs.Kept.{sizes_at-push, tied_pushed}
 use Rattle.gate_log.proofs.log.GateLog.append.Goals as goal
 
 bounded : (head payload : List ℕ) → length head ≤ 128 → length payload ≤ 65535 → IsBounded head payload
@@ -20,14 +20,14 @@ pub commit-requires-clause-shut : goal.commit-requires-clause-shut
 commit-requires-clause-shut g c = λ plain.
     let stands = c.requires.stands plain in
     let at_view = subst (λ (v : LogView). StandIn v.area v.sizes (g.D.Disk.may_leave c.args.disk.now)) (sym c.self.view_is) stands in
-    stand_shut c.self.inside.area (sizes_at c.self.inside.places.items) c.self.inside.end _ c.self.invariant.end at_view
+    stand_shut c.self.inside.area (sizes_at c.self.inside.places.items) c.self.inside.end _ c.self.invariant.tied.end_is at_view
 
 pub returns-in_err-commit-clause-any_moment : goal.returns-in_err-commit-clause-any_moment
 returns-in_err-commit-clause-any_moment g c = λ plain.
     let a = c.args in
     let fits = bounded a.head.now a.payload.now c.requires.head c.requires.payload in
     subst (λ (v : LogView). Runs g.D.Disk.moment g.D.Disk.may_leave g.D.Disk.left_since (MayAdd v.area v.sizes a.head.now a.payload.now) a.disk.now c.commit.new.disk) c.self.view_is
-    (widened (c.commit.ensures.any_moment plain) (λ d x image opens. may_add c.self.inside.area (sizes_at c.self.inside.places.items) c.self.inside.end a.head.now a.payload.now c.deref.result.now c.self.invariant.end
+    (widened (c.commit.ensures.any_moment plain) (λ d x image opens. may_add c.self.inside.area (sizes_at c.self.inside.places.items) c.self.inside.end a.head.now a.payload.now c.deref.result.now c.self.invariant.tied.end_is
     (c.deref.ensures.value ∙ c.lay.ensures.items) fits d x opens))
 
 pub returns-clause-any_moment : goal.returns-clause-any_moment
@@ -35,7 +35,7 @@ returns-clause-any_moment g c = λ plain.
     let a = c.args in
     let fits = bounded a.head.now a.payload.now c.requires.head c.requires.payload in
     subst (λ (v : LogView). Runs g.D.Disk.moment g.D.Disk.may_leave g.D.Disk.left_since (MayAdd v.area v.sizes a.head.now a.payload.now) a.disk.now c.commit.new.disk) c.self.view_is
-    (widened (c.commit.ensures.any_moment plain) (λ d x image opens. may_add c.self.inside.area (sizes_at c.self.inside.places.items) c.self.inside.end a.head.now a.payload.now c.deref.result.now c.self.invariant.end
+    (widened (c.commit.ensures.any_moment plain) (λ d x image opens. may_add c.self.inside.area (sizes_at c.self.inside.places.items) c.self.inside.end a.head.now a.payload.now c.deref.result.now c.self.invariant.tied.end_is
     (c.deref.ensures.value ∙ c.lay.ensures.items) fits d x opens))
 
 pub returns-clause-added : goal.returns-clause-added
@@ -43,14 +43,14 @@ returns-clause-added g c = λ plain.
     let a = c.args in
     let fits = bounded a.head.now a.payload.now c.requires.head c.requires.payload in
     subst (λ (v : LogView). Adds v.area v.sizes a.head.now a.payload.now (g.D.Disk.seen a.disk.now) (g.D.Disk.seen c.commit.new.disk)) c.self.view_is
-    (adds c.self.inside.area (sizes_at c.self.inside.places.items) c.self.inside.end a.head.now a.payload.now c.deref.result.now c.self.invariant.end
+    (adds c.self.inside.area (sizes_at c.self.inside.places.items) c.self.inside.end a.head.now a.payload.now c.deref.result.now c.self.invariant.tied.end_is
     (c.deref.ensures.value ∙ c.lay.ensures.items) fits _ _ (c.in_ok-commit.ensures.opens plain))
 
 pub returns-clause-stands : goal.returns-clause-stands
 returns-clause-stands g c = λ plain x image.
     let a = c.args in
     let fits = bounded a.head.now a.payload.now c.requires.head c.requires.payload in
-    let added = adds c.self.inside.area (sizes_at c.self.inside.places.items) c.self.inside.end a.head.now a.payload.now c.deref.result.now c.self.invariant.end
+    let added = adds c.self.inside.area (sizes_at c.self.inside.places.items) c.self.inside.end a.head.now a.payload.now c.deref.result.now c.self.invariant.tied.end_is
     (c.deref.ensures.value ∙ c.lay.ensures.items) fits _ _ (c.in_ok-commit.ensures.opens plain) in
     let at_view = subst (λ (v : LogView). StandIn v.area v.sizes (g.D.Disk.may_leave a.disk.now)) (sym c.self.view_is) (c.requires.stands plain) in
     let stood = at_view (g.D.Disk.seen a.disk.now) (g.met.D.Disk.reads_as_image a.disk.now plain) in
@@ -67,8 +67,7 @@ invariant_of-self-2 g c =
     let size : c.len.result ≡ 7 + length a.head.now + length a.payload.now =
     omega (arith, c.len.ensures, c.lay.new.line.ok.0, ap length c.lay.ensures.items, length-append (body a.head.now a.payload.now) (0 ∷ []), length-body a.head.now a.payload.now) in
     record {
-      end = ap (λ (k : ℕ). c.self.inside.end + k) size ∙ end_pushed _ _ _ c.self.inside.end c.push_reserved.ensures.items s.end;
-      gates = gates_pushed _ _ _ c.self.inside.end c.push_reserved.ensures.items s.end refl s.gates;
+      tied = tied_pushed _ _ _ c.self.inside.end _ c.push_reserved.ensures.items refl (ap (λ (k : ℕ). c.self.inside.end + k) size) s.tied;
       room = omega (arith, s.room, c.push_reserved.ensures.len, c.push_reserved.ensures.capacity);
       count = omega (arith, s.count, c.push_reserved.ensures.len);
       reach = omega (arith, s.reach);
