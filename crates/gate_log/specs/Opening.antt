@@ -41,3 +41,19 @@ CountsFailure before now (Err Failed) = (before ≤ now) × Rose before now
 CountsFailure before now (Err NotOurs) = now ≡ before
 CountsFailure before now (Err (Broken at)) = now ≡ before
 CountsFailure before now (Err OutOfMemory) = now ≡ before
+
+-- What each fault of a start tells of the area. Where it has at most nine bytes, there is no fault but `Failed`.
+abbrev pub Shows : List ℕ → List ℕ → LogFault → Type 0
+Shows mark bytes Failed = Unit {0}
+Shows mark bytes NotOurs = IsForeign mark bytes
+Shows mark bytes (Broken at) = IsBroken mark bytes at
+Shows mark bytes OutOfMemory = 9 < length bytes
+
+-- A start at Ok: an area of at most nine bytes was given its mark and a closed gate, and a longer one is read as it is.
+pub record Starts (area : Area) (mark : List ℕ) (sizes : List (ℕ × ℕ)) (old new : Areas) : Type 0 where
+  pub other : rest_of area new ≡ rest_of area old
+  pub blank : length (area_of area old) ≤ 9 → (sizes ≡ []) × (area_of area new ≡ mark ++ 0 ∷ [])
+  pub longer : 9 < length (area_of area old) → area_of area new ≡ area_of area old
+  pub records : List Record
+  pub sized : map size_of records ≡ sizes
+  pub log : Log mark records (area_of area new)

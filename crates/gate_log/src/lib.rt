@@ -5,6 +5,7 @@
 //! checksum is needed for that.
 #![tactic(auto)]
 
+mod begin;
 mod commit;
 mod fault;
 mod lengths;

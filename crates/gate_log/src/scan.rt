@@ -17,6 +17,9 @@ use std::alloc::Global;
 /// The most records that a log counts.
 const MOST_RECORDS: usize = u32::MAX as usize;
 
+/// An area this long or longer is not read: the places behind its end would come near the greatest `u64`.
+const FARTHEST: u64 = 1 << 62;
+
 /// Where a record stands: the place of its gate, and the lengths of its head and payload.
 #[derive(Clone, Copy)]
 pub(crate) struct Place {
@@ -95,4 +98,30 @@ pub(crate) fn scan_area<D: Disk>(alloc: Global, disk: &mut D, area: Area, len: u
         })?;
         at += 7 + u64::from(lengths.head) + u64::from(lengths.payload);
     }
+}
+
+/// Reads the mark of an area that is longer than nine bytes, and goes through its records.
+pub(crate) fn find<D: Disk>(alloc: Global, disk: &mut D, area: Area, mark: &[u8; 8], len: u64) -> Result<Scan, LogFault>
+    requires longer { 9 < len }
+    requires len { Plain (D.told disk.old) (D.honest disk.old) → len ≡ length (area_of area (D.seen disk.old)) }
+
+    ensures scanned { Plain (D.told disk.old) (D.honest disk.old) → Scanned mark.now (area_of area (D.seen disk.old)) result }
+    ensures tied { IfOk result (λ scan. AreTied scan.places.items scan.end) }
+    ensures count { IfOk result (λ scan. vec_len scan.places < 2 ^ 32) }
+    ensures reach { IfOk result (λ scan. scan.end < 2 ^ 62) }
+    ensures seen { Plain (D.told disk.old) (D.honest disk.old) → D.seen disk.new ≡ D.seen disk.old }
+    ensures any_moment { Plain (D.told disk.old) (D.honest disk.old)
+        → Runs D.moment D.may_leave D.left_since Same disk.old disk.new }
+    ensures kind { SameKind D.told D.honest D.order D.orders disk.old disk.new }
+    ensures cause { CountsFailure (D.faults disk.old) (D.faults disk.new) result }
+{
+    if len >= FARTHEST {
+        return Err(LogFault::OutOfMemory);
+    }
+    let mut found = [0u8; 8];
+    disk.read(area, 0, &mut found)?;
+    if found != *mark {
+        return Err(LogFault::NotOurs);
+    }
+    scan_area(alloc, disk, area, len)
 }
