@@ -5,7 +5,7 @@ use Rattle.delf_disk.specs.declared.area.Area.{Area}
 use Rattle.delf_disk.specs.Areas.{Areas, area_of, rest_of}
 use Rattle.delf_disk.specs.Images.{overwritten, TornAt, Torn, Written, After, Only}
 use Rattle.delf_disk.proofs.Writes.{Parted, torn_split, written_split}
-use Rattle.gate_log.specs.Gates.{Shut, Open, IsShut, ShutIn, MayOpen, Opens}
+use Rattle.gate_log.specs.Gates.{Shut, Open, IsShut, ShutIn, MayOpen, Opens, MayChange, Closes}
 
 -- a closed gate with the line behind it
 pub record Staged (front line bytes : List ℕ) : Type 0 where
@@ -88,4 +88,25 @@ module _ (area : Area) (gate : ℕ) (line : List ℕ) where
     other = second.other ∙ first.other;
     here = λ front shut. written_gate gate line front (area_of area mid) (area_of area new) shut.place
         (written_behind gate line front (area_of area old) (area_of area mid) shut first.here) second.here;
+  }
+
+module _ (area : Area) (gate : ℕ) where
+  -- one torn byte
+  pub may_change : (old new : Areas) → Torn area gate 1 old new → MayChange area gate old new
+  may_change old new torn = record {
+    other = torn.other;
+    here = λ front value tail place split.
+        let parts = torn_split gate 1 front (value ∷ tail) (area_of area new) place (subst (λ (l : List ℕ). TornAt gate 1 l (area_of area new)) split torn.here) in
+        let first = headed value tail parts.tail parts.behind parts.no_shorter in
+        (first.0, parts.is ∙ ap (λ (l : List ℕ). front ++ l) first.1);
+  }
+
+  pub unchanged : (c : Areas) → MayChange area gate c c
+  unchanged c = record { other = refl; here = λ front value tail place split. (value, split) }
+
+  pub closes : (old new : Areas) → Written area gate (0 ∷ []) old new → Closes area gate old new
+  closes old new written = record {
+    other = written.other;
+    here = λ front value tail place split.
+        written.here ∙ ap (λ (l : List ℕ). overwritten gate (0 ∷ []) l) split ∙ written_split gate front (value ∷ tail) (0 ∷ []) place;
   }

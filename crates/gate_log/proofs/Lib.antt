@@ -2,4 +2,8 @@ mod Gate
 mod Rows
 mod Kept
 mod Opened
-pub mod Reading
+mod Reading
+mod Spans
+mod Parts
+mod Scrubbing
+mod Closing

@@ -1,5 +1,5 @@
 -- Records one after another: where they end, and one more behind them.
-use Rattle.std.proofs.Common.{◌≡◌, ◌≢◌, ◌⊎◌, inl, inr, ⊎_elim, ℕ, zero, suc, ◌+◌, ◌≤◌, List, [], ◌∷◌, ◌++◌, length, map, refl, sym, ◌∙◌, ap, subst, arith, append_assoc, length-append}
+use Rattle.std.proofs.Common.{◌≡◌, ◌≢◌, ◌⊎◌, inl, inr, ⊎_elim, ℕ, zero, suc, ◌+◌, ◌<◌, ◌≤◌, List, [], ◌∷◌, ◌++◌, length, map, refl, sym, ◌∙◌, ap, subst, arith, append_assoc, length-append}
 use Rattle.std.proofs.lemmas.List.{map-append}
 use Rattle.std.specs.Int.{w16, w32, to_be_bytes}
 use Rattle.delf_disk.specs.declared.area.Area.{Area}
@@ -122,3 +122,8 @@ added_stands area sizes head payload old new adds s = record {
   sized = map-append size_of s.records (record { head = head; payload = payload } ∷ []) ∙ ap (λ (l : List (ℕ × ℕ)). l ++ (length head, length payload) ∷ []) s.sized;
   log = adds.here s.mark s.records s.sized s.log;
 }
+
+-- the closed gate stands within the area
+pub log_longer : (area : Area) (sizes : List (ℕ × ℕ)) (areas : Areas) → Stands area sizes areas → end_from 8 sizes < length (area_of area areas)
+log_longer area sizes areas s =
+    omega (arith, ap length s.log.split, length-append (s.mark ++ spelled s.records) (s.log.gate ∷ s.log.tail), length-front s.mark s.records s.log.eight, ap (λ (l : List (ℕ × ℕ)). end_from 8 l) s.sized)

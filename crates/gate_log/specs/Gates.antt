@@ -32,3 +32,15 @@ pub record MayOpen (area : Area) (gate : ℕ) (line : List ℕ) (old new : Areas
 pub record Opens (area : Area) (gate : ℕ) (line : List ℕ) (old new : Areas) : Type 0 where
   pub other : rest_of area new ≡ rest_of area old
   pub here : (front : List ℕ) → Shut gate front (area_of area old) → Open front line (area_of area new)
+
+-- another value may stand at this place, and nothing else has changed
+pub record MayChange (area : Area) (gate : ℕ) (old new : Areas) : Type 0 where
+  pub other : rest_of area new ≡ rest_of area old
+  pub here : (front : List ℕ) (value : ℕ) (tail : List ℕ) → length front ≡ gate → area_of area old ≡ front ++ value ∷ tail
+      → (v : ℕ) × (area_of area new ≡ front ++ v ∷ tail)
+
+-- a closed gate stands there
+pub record Closes (area : Area) (gate : ℕ) (old new : Areas) : Type 0 where
+  pub other : rest_of area new ≡ rest_of area old
+  pub here : (front : List ℕ) (value : ℕ) (tail : List ℕ) → length front ≡ gate → area_of area old ≡ front ++ value ∷ tail
+      → area_of area new ≡ front ++ 0 ∷ tail

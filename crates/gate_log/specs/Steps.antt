@@ -2,7 +2,7 @@
 use Rattle.std.specs.Prelude.{◌≡◌, ◌⊎◌, ℕ, List, [], ◌∷◌, ◌++◌, length, map, replicate}
 use Rattle.delf_disk.specs.declared.area.Area.{Area}
 use Rattle.delf_disk.specs.Areas.{Areas, area_of, rest_of}
-use Rattle.gate_log.specs.Records.{Record, size_of, payload_of, replaced}
+use Rattle.gate_log.specs.Records.{Record, size_of, head_of, payload_of, replaced}
 use Rattle.gate_log.specs.Logs.{Log, Keeps}
 
 -- the records as they were, or with this one more
@@ -50,3 +50,12 @@ pub record Settles (area : Area) (sizes : List (ℕ × ℕ)) (old new : Areas) :
   pub other : rest_of area new ≡ rest_of area old
   pub here : (mark : List ℕ) (records : List Record) → map size_of records ≡ sizes → (log : Log mark records (area_of area old))
       → (log_now : Log mark records (area_of area new)) × (log_now.gate ≡ log.gate) × (log_now.tail ≡ replicate (length log.tail) 0)
+
+-- these bytes are the head, or the payload, of record i
+abbrev pub HeadRead : Area → List (ℕ × ℕ) → ℕ → Areas → List ℕ → Type 0
+HeadRead area sizes i areas bytes =
+    (mark : List ℕ) (records : List Record) → map size_of records ≡ sizes → Log mark records (area_of area areas) → bytes ≡ head_of records i
+
+abbrev pub PayloadRead : Area → List (ℕ × ℕ) → ℕ → Areas → List ℕ → Type 0
+PayloadRead area sizes i areas bytes =
+    (mark : List ℕ) (records : List Record) → map size_of records ≡ sizes → Log mark records (area_of area areas) → bytes ≡ payload_of records i

@@ -6,12 +6,14 @@
 #![tactic(auto)]
 
 mod begin;
+mod close;
 mod commit;
 mod fault;
 mod lengths;
 mod line;
 mod log;
 mod scan;
+mod wipe;
 
 pub use fault::LogFault;
 pub use log::GateLog;
