@@ -132,7 +132,7 @@ module _ (area : Area) (sizes : List (ℕ × ℕ)) (gate : ℕ) (place : gate �
         let where_shut = shut_place mark rs log.gate sized log.eight in
         let whole = log.split ∙ tail_split mark rs log.gate log.tail in
         let long : length log.tail ≡ n = omega (arith, ap length whole, length-append (mark ++ spelled rs ++ log.gate ∷ []) log.tail, where_shut, size) in
-        let none : drop (length (replicate n 0)) log.tail ≡ [] = drop_all (length (replicate n 0)) log.tail (omega (arith, length-replicate n 0, long)) in
+        let none : drop (length (replicate n 0)) log.tail ≡ [] = drop_all (length (replicate n 0)) log.tail (omega (arith, length-replicate {A = ℕ} n 0, long)) in
         (record {
           eight = log.eight;
           bounded = log.bounded;

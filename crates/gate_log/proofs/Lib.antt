@@ -7,3 +7,4 @@ mod Spans
 mod Parts
 mod Scrubbing
 mod Closing
+pub mod Uniqueness

@@ -1,6 +1,6 @@
 -- What a torn write and a whole one over the payload of a record make of a log.
-use Rattle.std.proofs.Common.{◌≡◌, ℕ, ◌+◌, ◌<◌, ◌≤◌, List, [], ◌∷◌, ◌++◌, length, map, take, drop, replicate, refl, sym, ◌∙◌, ap, subst, arith, length-append, length-take, take-append-drop}
-use Rattle.std.proofs.lemmas.List.{drop_at, length-replicate}
+use Rattle.std.proofs.Common.{◌≡◌, ℕ, ◌+◌, ◌<◌, ◌≤◌, List, [], ◌∷◌, ◌++◌, length, map, take, drop, replicate, refl, sym, ◌∙◌, ap, subst, arith, length-append, length-take, length-drop, take-append-drop}
+use Rattle.std.proofs.lemmas.List.{take_at, drop_at, length-replicate, nil_from_length}
 use Rattle.delf_disk.specs.declared.area.Area.{Area}
 use Rattle.delf_disk.specs.Areas.{Areas, area_of, rest_of}
 use Rattle.delf_disk.specs.Images.{overwritten, TornAt, Torn, Written}
@@ -76,3 +76,17 @@ scrubbed_stands area sizes i old new scrub s =
       sized = sizes-replaced s.records i after.0 after.1 ∙ s.sized;
       log = after.2.log_now;
     }
+
+-- what was read to the front of a buffer
+pub read_front : (buf front rest bytes : List ℕ) (at len : ℕ) → front ≡ take (length (take len buf)) (drop at bytes) → len ≤ length buf → at + len ≤ length bytes → take len (front ++ rest) ≡ take len (drop at bytes)
+read_front buf front rest bytes at len is fits within =
+    let size : length (take len buf) ≡ len = omega (arith, length-take len buf) in
+    let whole : front ≡ take len (drop at bytes) = is ∙ ap (λ (k : ℕ). take k (drop at bytes)) size in
+    let long : length front ≡ len = omega (arith, ap length whole, length-take len (drop at bytes), length-drop at bytes) in
+    take_at front rest len long ∙ whole
+
+-- an empty payload
+pub nothing_read : (area : Area) (sizes : List (ℕ × ℕ)) (i : ℕ) (areas : Areas) → i < length sizes → (size_in sizes i).1 ≡ 0 → PayloadRead area sizes i areas []
+nothing_read area sizes i areas inside none mark rs sized log =
+    let long = payload_size rs i (inside_log rs sizes i sized inside) ∙ ap (λ (l : List (ℕ × ℕ)). (size_in l i).1) sized ∙ none in
+    sym (nil_from_length (payload_of rs i) long)
