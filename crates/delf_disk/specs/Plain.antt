@@ -1,5 +1,5 @@
 -- What kind of disk it is.
-use Rattle.std.specs.Prelude.{◌≡◌, ℕ, ◌+◌, ◌-◌, ◌^◌, min, max, Bool, IsTrue}
+use Rattle.std.specs.Prelude.{◌≡◌, ℕ, ◌+◌, ◌-◌, ◌^◌, min, max, Bool, false, IsTrue}
 use Rattle.delf_disk.specs.declared.area.Order.{Order}
 
 -- a disk that tells its bytes and is honest
@@ -21,3 +21,7 @@ pub record SameKind {D : Type 0} (told honest : D → Bool) (order : D → Order
 -- one more, or the same at the greatest `u64`
 abbrev pub NextCount : ℕ → ℕ → Type 0
 NextCount before now = now ≡ max before (min (before + 1) (2 ^ 64 - 1))
+
+-- one that tells nothing is not plain
+pub not_plain : {P : Type 0} {honest : Bool} → Plain false honest → P
+not_plain plain = absurd (cc (plain.0))

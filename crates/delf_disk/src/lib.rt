@@ -5,9 +5,17 @@
 #![tactic(auto)]
 
 mod area;
+mod content;
+mod counts;
 mod disk;
+mod file_disk;
+mod files;
 mod lists;
+mod mem_disk;
+mod past;
 
 pub use area::{Area, Failed, Order};
 pub use disk::{Disk, Rig};
 pub use lists::{Bytes, Numbers};
+pub use file_disk::FileDisk;
+pub use mem_disk::MemDisk;
