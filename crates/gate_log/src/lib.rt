@@ -13,6 +13,8 @@ mod lengths;
 mod line;
 mod log;
 mod scan;
+#[cfg(test)]
+mod tests;
 mod wipe;
 
 pub use fault::LogFault;

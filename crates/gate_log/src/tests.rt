@@ -1,4 +1,4 @@
-ghost use Rattle.std.specs.Prelude.{◌≤◌, length, OnOk};
+ghost use Rattle.std.specs.Prelude.{◌≤◌, length, IfOk, OnOk};
 ghost use Rattle.delf_disk.specs.Images.{Only};
 ghost use Rattle.delf_disk.specs.Plain.{Plain};
 
