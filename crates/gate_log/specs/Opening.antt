@@ -57,3 +57,11 @@ pub record Starts (area : Area) (mark : List ℕ) (sizes : List (ℕ × ℕ)) (o
   pub records : List Record
   pub sized : map size_of records ≡ sizes
   pub log : Log mark records (area_of area new)
+
+-- this fault, unless the disk failed or memory was wanting
+abbrev pub OnlyFault : {T : Type 0} → LogFault → Result T LogFault → Type 0
+OnlyFault fault (Ok x) = ⊥
+OnlyFault fault (Err Failed) = Unit {0}
+OnlyFault fault (Err NotOurs) = fault ≡ NotOurs
+OnlyFault fault (Err (Broken at)) = fault ≡ Broken at
+OnlyFault fault (Err OutOfMemory) = Unit {0}

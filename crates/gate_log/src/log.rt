@@ -6,7 +6,8 @@ ghost use Rattle.delf_disk.specs.Causes.{HasCause};
 ghost use Rattle.delf_disk.specs.Plain.{Plain, SameKind};
 ghost use Rattle.delf_disk.specs.Moments.{Runs};
 ghost use Rattle.gate_log.specs.Logs.{StandIn};
-ghost use Rattle.gate_log.specs.Opening.{Starts, Shows, CountsFailure};
+ghost use Rattle.gate_log.specs.declared.fault.LogFault.TheVariants.{NotOurs, Broken};
+ghost use Rattle.gate_log.specs.Opening.{IsForeign, IsBroken, Starts, Shows, OnlyFault, CountsFailure};
 ghost use Rattle.gate_log.specs.Steps.{MayAdd, Adds, HeadRead, PayloadRead, MayScrub, Scrubs, MayDrop, Drops, MaySettle, Settles};
 ghost use Rattle.gate_log.specs.Places.{AreTied, sizes_at, size_in, gate_from};
 
@@ -62,7 +63,11 @@ impl GateLog {
         ensures starts { IfOk result (λ log. Plain (D.told disk.old) (D.honest disk.old)
             → Starts area mark log.sizes (D.seen disk.old) (D.seen disk.new)) }
 
-        // Each fault shows what it tells, and what one of them tells no other answer allows.
+        // `NotOurs` and `Broken` come exactly where the area shows it, unless the disk failed or memory was wanting.
+        ensures foreign { Plain (D.told disk.old) (D.honest disk.old) → IsForeign mark (area_of area (D.seen disk.old))
+            → OnlyFault NotOurs result }
+        ensures broken { Plain (D.told disk.old) (D.honest disk.old) → (at : ℕ) → IsBroken mark (area_of area (D.seen disk.old)) at
+            → OnlyFault (Broken at) result }
         ensures fault { IfErr result (λ fault. Plain (D.told disk.old) (D.honest disk.old)
             → Shows mark (area_of area (D.seen disk.old)) fault) }
 

@@ -4,7 +4,8 @@ ghost use Rattle.delf_disk.specs.Areas.{area_of};
 ghost use Rattle.delf_disk.specs.Images.{Same};
 ghost use Rattle.delf_disk.specs.Plain.{Plain, SameKind};
 ghost use Rattle.delf_disk.specs.Moments.{Runs};
-ghost use Rattle.gate_log.specs.Opening.{CountsFailure};
+ghost use Rattle.gate_log.specs.declared.fault.LogFault.TheVariants.{NotOurs, Broken};
+ghost use Rattle.gate_log.specs.Opening.{IsForeign, IsBroken, OnlyFault, CountsFailure};
 ghost use Rattle.gate_log.specs.Looking.{Looked, Scanned};
 ghost use Rattle.gate_log.specs.Places.{AreTied};
 
@@ -106,6 +107,10 @@ pub(crate) fn find<D: Disk>(alloc: Global, disk: &mut D, area: Area, mark: &[u8;
     requires len { Plain (D.told disk.old) (D.honest disk.old) → len ≡ length (area_of area (D.seen disk.old)) }
 
     ensures scanned { Plain (D.told disk.old) (D.honest disk.old) → Scanned mark.now (area_of area (D.seen disk.old)) result }
+    ensures foreign { Plain (D.told disk.old) (D.honest disk.old) → IsForeign mark.now (area_of area (D.seen disk.old))
+        → OnlyFault NotOurs result }
+    ensures broken { Plain (D.told disk.old) (D.honest disk.old) → (at : ℕ) → IsBroken mark.now (area_of area (D.seen disk.old)) at
+        → OnlyFault (Broken at) result }
     ensures tied { IfOk result (λ scan. AreTied scan.places.items scan.end) }
     ensures count { IfOk result (λ scan. vec_len scan.places < 2 ^ 32) }
     ensures reach { IfOk result (λ scan. scan.end < 2 ^ 62) }

@@ -1,6 +1,7 @@
 -- A blank area gets its first gate.
 use Rattle.std.proofs.Common.{◌≡◌, ◌≤◌, ◌<◌, ℕ, List, [], ◌∷◌, ◌++◌, length, refl, sym, ◌∙◌, ap, subst, arith}
 use Rattle.std.proofs.lemmas.List.{append-nil}
+use Rattle.std.proofs.lemmas.Result.{err_from_is_err_and}
 use Rattle.delf_disk.specs.Areas.{Areas, area_of, rest_of}
 use Rattle.delf_disk.specs.Images.{Same, Torn}
 use Rattle.delf_disk.proofs.Flags.{stays_plain}
@@ -9,6 +10,7 @@ use Rattle.delf_disk.proofs.Writes.{torn_same}
 use Rattle.gate_log.specs.declared.scan.Place.{Place}
 use Rattle.gate_log.specs.Logs.{Log, Stands}
 use Rattle.gate_log.specs.Places.{sizes_at}
+use Rattle.gate_log.specs.Opening.{IsBroken}
 use Rattle.gate_log.proofs.log.GateLog.start.Goals as goal
 
 -- a mark and a closed gate
@@ -64,3 +66,15 @@ returns-then-len-le-BLANK-clause-stands g c = λ plain only x image.
       sized = sym (no_sizes c.over.result.sizes c.new.result.items c.over.ensures.sizes c.new.ensures.items);
       log = empty_log a.mark (area_of a.area x) c.begin.ensures.eight begun;
     }
+
+pub returns-clause-broken : goal.returns-clause-broken
+returns-clause-broken g c = λ plain at broken.
+    let a = c.args in
+    c.in_ok-scan.ensures.broken (stays_plain c.len.ensures.kind plain) at (subst (λ (x : Areas). IsBroken a.mark (area_of a.area x) at) (sym (c.len.ensures.seen plain)) broken)
+
+pub returns-in_err-scan-clause-broken : goal.returns-in_err-scan-clause-broken
+returns-in_err-scan-clause-broken g c = λ plain at broken.
+    let a = c.args in
+    let told = c.in_err-scan.ensures.broken (stays_plain c.len.ensures.kind plain) at (subst (λ (x : Areas). IsBroken a.mark (area_of a.area x) at) (sym (c.len.ensures.seen plain)) broken) in
+    let p = err_from_is_err_and c.from_residual-in_err-scan.result c.from_residual-in_err-scan.ensures.1 in
+    rw (p.1, p.2) told
