@@ -41,21 +41,21 @@ module _ (area : Area) (sizes : List (ℕ × ℕ)) (gate : ℕ) (place : gate �
         let v = change.here (mark ++ spelled rs) 165 back (last_place mark rs last sized log.eight) (log.split ∙ last_split mark rs last (log.gate ∷ log.tail)) in
         elim (cases_eq v.0 165) [
           | inl opened ↦ inl (record {
-              eight = log.eight;
-              bounded = log.bounded;
-              gate = log.gate;
-              closed = log.closed;
-              tail = log.tail;
-              split = v.1 ∙ ap (λ (k : ℕ). mark ++ spelled rs ++ k ∷ back) opened ∙ sym (last_split mark rs last (log.gate ∷ log.tail));
-            })
+            eight = log.eight;
+            bounded = log.bounded;
+            gate = log.gate;
+            closed = log.closed;
+            tail = log.tail;
+            split = v.1 ∙ ap (λ (k : ℕ). mark ++ spelled rs ++ k ∷ back) opened ∙ sym (last_split mark rs last (log.gate ∷ log.tail));
+          })
           | inr shut ↦ inr (record {
-              eight = log.eight;
-              bounded = bounded_front rs last log.bounded;
-              gate = v.0;
-              closed = shut;
-              tail = back;
-              split = v.1;
-            })
+            eight = log.eight;
+            bounded = bounded_front rs last log.bounded;
+            gate = v.0;
+            closed = shut;
+            tail = back;
+            split = v.1;
+          })
         ];
   }
 
@@ -113,15 +113,17 @@ module _ (area : Area) (sizes : List (ℕ × ℕ)) (gate : ℕ) (place : gate �
     here = λ mark rs sized log.
         let front = mark ++ spelled rs ++ log.gate ∷ [] in
         let parts = torn_split (gate + 1) n front log.tail (area_of area new) (shut_place mark rs log.gate sized log.eight)
-        (subst (λ (l : List ℕ). TornAt (gate + 1) n l (area_of area new)) (log.split ∙ tail_split mark rs log.gate log.tail) torn.here) in
-        (record {
-          eight = log.eight;
-          bounded = log.bounded;
-          gate = log.gate;
-          closed = log.closed;
-          tail = parts.tail;
-          split = parts.is ∙ sym (tail_split mark rs log.gate parts.tail);
-        }, refl);
+        (subst (λ (l : List ℕ). TornAt (gate + 1) n l (area_of area new)) (log.split ∙ tail_split mark rs log.gate log.tail) torn.here) in (
+          record {
+            eight = log.eight;
+            bounded = log.bounded;
+            gate = log.gate;
+            closed = log.closed;
+            tail = parts.tail;
+            split = parts.is ∙ sym (tail_split mark rs log.gate parts.tail);
+          },
+          refl,
+        );
   }
 
   pub settles : (n : ℕ) (old new : Areas) → n ≡ length (area_of area old) - (gate + 1) → Written area (gate + 1) (replicate n 0) old new → Settles area sizes old new
@@ -132,16 +134,19 @@ module _ (area : Area) (sizes : List (ℕ × ℕ)) (gate : ℕ) (place : gate �
         let where_shut = shut_place mark rs log.gate sized log.eight in
         let whole = log.split ∙ tail_split mark rs log.gate log.tail in
         let long : length log.tail ≡ n = omega (arith, ap length whole, length-append (mark ++ spelled rs ++ log.gate ∷ []) log.tail, where_shut, size) in
-        let none : drop (length (replicate n 0)) log.tail ≡ [] = drop_all (length (replicate n 0)) log.tail (omega (arith, length-replicate {A = ℕ} n 0, long)) in
-        (record {
-          eight = log.eight;
-          bounded = log.bounded;
-          gate = log.gate;
-          closed = log.closed;
-          tail = replicate n 0;
-          split = written.here ∙ ap (λ (l : List ℕ). overwritten (gate + 1) (replicate n 0) l) whole ∙ written_split (gate + 1) front log.tail (replicate n 0) where_shut
-              ∙ ap (λ (l : List ℕ). front ++ l) (ap (λ (l : List ℕ). replicate n 0 ++ l) none ∙ append-nil (replicate n 0)) ∙ sym (tail_split mark rs log.gate (replicate n 0));
-        }, refl, ap (λ (k : ℕ). replicate k 0) (sym long));
+        let none : drop (length (replicate n 0)) log.tail ≡ [] = drop_all (length (replicate n 0)) log.tail (omega (arith, length-replicate {A = ℕ} n 0, long)) in (
+          record {
+            eight = log.eight;
+            bounded = log.bounded;
+            gate = log.gate;
+            closed = log.closed;
+            tail = replicate n 0;
+            split = written.here ∙ ap (λ (l : List ℕ). overwritten (gate + 1) (replicate n 0) l) whole ∙ written_split (gate + 1) front log.tail (replicate n 0) where_shut
+                ∙ ap (λ (l : List ℕ). front ++ l) (ap (λ (l : List ℕ). replicate n 0 ++ l) none ∙ append-nil (replicate n 0)) ∙ sym (tail_split mark rs log.gate (replicate n 0));
+          },
+          refl,
+          ap (λ (k : ℕ). replicate k 0) (sym long),
+        );
   }
 
 -- an image while it is settled, and after

@@ -40,6 +40,7 @@ none_unfit start rest room long read none head payload fits =
   where
     clash : (b h x y : ℕ) → b ≡ 2 + x + y → h ≡ x → b < 2 + h → ⊥
     clash b h x y e1 e2 lt = omega arith
+
     beyond : (b x y r : ℕ) → b ≡ 2 + x + y → 7 + x + y ≤ r → r < 5 + b → ⊥
     beyond b x y r e1 le lt = omega arith
 

@@ -13,8 +13,11 @@ use Rattle.gate_log.specs.Places.{end_from, gates_from}
 pub length-body : (head payload : List ℕ) → length (body head payload) ≡ 6 + length head + length payload
 unfolding body
 length-body head payload =
-    omega (arith, length-append (to_be_bytes w32 (2 + length head + length payload) ++ to_be_bytes w16 (length head) ++ head) payload,
-        length-append (to_be_bytes w32 (2 + length head + length payload) ++ to_be_bytes w16 (length head)) head)
+    omega (
+      arith,
+      length-append (to_be_bytes w32 (2 + length head + length payload) ++ to_be_bytes w16 (length head) ++ head) payload,
+      length-append (to_be_bytes w32 (2 + length head + length payload) ++ to_be_bytes w16 (length head)) head,
+    )
 
 pub spelled-append : (rs ss : List Record) → spelled (rs ++ ss) ≡ spelled rs ++ spelled ss
 spelled-append [] ss = refl

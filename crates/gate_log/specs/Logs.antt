@@ -37,13 +37,13 @@ records_within zero bytes = []
 records_within (suc n) [] = []
 records_within (suc n) (gate ∷ rest) =
     if gate == 165 then
-      (let body_length = from_be_bytes w32 (take 4 rest) in
-      let head_length = from_be_bytes w16 (take 2 (drop 4 rest)) in
-      let fields = drop 6 rest in
-      record {
-        head = take head_length fields;
-        payload = take (body_length - 2 - head_length) (drop head_length fields);
-      } ∷ records_within n (drop (body_length - 2) fields))
+    (let body_length = from_be_bytes w32 (take 4 rest) in
+    let head_length = from_be_bytes w16 (take 2 (drop 4 rest)) in
+    let fields = drop 6 rest in
+    record {
+      head = take head_length fields;
+      payload = take (body_length - 2 - head_length) (drop head_length fields);
+    } ∷ records_within n (drop (body_length - 2) fields))
     else []
 
 -- the records that an area holds

@@ -12,7 +12,12 @@ use delf_disk::{Area, Disk, Failed};
 pub(crate) const OPEN: u8 = 0xA5;
 
 /// Writes a line behind a closed gate and opens the gate once the line is on the disk.
-pub(crate) fn commit<D: Disk>(disk: &mut D, area: Area, gate: u64, line: &[u8]) -> Result<(), Failed>
+pub(crate) fn commit<D: Disk>(
+    disk: &mut D,
+    area: Area,
+    gate: u64,
+    line: &[u8],
+) -> Result<(), Failed>
     requires room { gate + 1 < 2 ^ 64 }
     requires shut { Plain (D.told disk.old) (D.honest disk.old) → ShutIn area gate (D.may_leave disk.old) }
 

@@ -58,7 +58,12 @@ impl GateLog {
     /// gate, and they are synced. A longer one is read in pieces, and neither written nor synced.
     ///
     /// The records of the log are those up to the first closed gate. Memory is taken for their places alone.
-    pub fn start<D: Disk>(alloc: Global, disk: &mut D, area: Area, mark: [u8; 8]) -> Result<GateLog, LogFault>
+    pub fn start<D: Disk>(
+        alloc: Global,
+        disk: &mut D,
+        area: Area,
+        mark: [u8; 8],
+    ) -> Result<GateLog, LogFault>
         ensures area { IfOk result (λ log. log.area ≡ area) }
         ensures starts { IfOk result (λ log. Plain (D.told disk.old) (D.honest disk.old)
             → Starts area mark log.sizes (D.seen disk.old) (D.seen disk.new)) }
@@ -113,7 +118,12 @@ impl GateLog {
     }
 
     /// Adds a record with this head and payload: all but its gate, a sync, its gate, a sync. It takes no memory.
-    pub fn append<D: Disk>(&mut self, disk: &mut D, head: &[u8], payload: &[u8]) -> Result<(), Failed>
+    pub fn append<D: Disk>(
+        &mut self,
+        disk: &mut D,
+        head: &[u8],
+        payload: &[u8],
+    ) -> Result<(), Failed>
         requires spare { 0 < self.old.spare }
         requires head { length head.now ≤ 128 }
         requires payload { length payload.now ≤ 65535 }
@@ -189,7 +199,12 @@ impl GateLog {
     }
 
     /// Reads the head of record `i` to the front of `buf`, and gives its length.
-    pub fn read_head<D: Disk>(&self, disk: &mut D, i: u32, buf: &mut [u8; 128]) -> Result<u16, Failed>
+    pub fn read_head<D: Disk>(
+        &self,
+        disk: &mut D,
+        i: u32,
+        buf: &mut [u8; 128],
+    ) -> Result<u16, Failed>
         requires inside { i < length self.now.sizes }
         requires fits { (size_in self.now.sizes i).0 ≤ 128 }
         requires stands { Plain (D.told disk.old) (D.honest disk.old) → StandIn self.now.area self.now.sizes (D.may_leave disk.old) }

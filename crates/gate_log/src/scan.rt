@@ -37,7 +37,12 @@ pub(crate) struct Scan {
 }
 
 /// Looks at one gate and the lengths behind it. `None` if it is closed.
-pub(crate) fn look<D: Disk>(disk: &mut D, area: Area, at: u64, len: u64) -> Result<Option<Lengths>, LogFault>
+pub(crate) fn look<D: Disk>(
+    disk: &mut D,
+    area: Area,
+    at: u64,
+    len: u64,
+) -> Result<Option<Lengths>, LogFault>
     requires within { at < len }
     requires len { Plain (D.told disk.old) (D.honest disk.old) → len ≡ length (area_of area (D.seen disk.old)) }
 
@@ -67,7 +72,12 @@ pub(crate) fn look<D: Disk>(disk: &mut D, area: Area, at: u64, len: u64) -> Resu
 }
 
 /// Goes through the records of an area that is longer than nine bytes, up to the first closed gate.
-pub(crate) fn scan_area<D: Disk>(alloc: Global, disk: &mut D, area: Area, len: u64) -> Result<Scan, LogFault>
+pub(crate) fn scan_area<D: Disk>(
+    alloc: Global,
+    disk: &mut D,
+    area: Area,
+    len: u64,
+) -> Result<Scan, LogFault>
     requires longer { 9 < len }
     requires small { len < 2 ^ 62 }
     requires len { Plain (D.told disk.old) (D.honest disk.old) → len ≡ length (area_of area (D.seen disk.old)) }
@@ -102,7 +112,13 @@ pub(crate) fn scan_area<D: Disk>(alloc: Global, disk: &mut D, area: Area, len: u
 }
 
 /// Reads the mark of an area that is longer than nine bytes, and goes through its records.
-pub(crate) fn find<D: Disk>(alloc: Global, disk: &mut D, area: Area, mark: &[u8; 8], len: u64) -> Result<Scan, LogFault>
+pub(crate) fn find<D: Disk>(
+    alloc: Global,
+    disk: &mut D,
+    area: Area,
+    mark: &[u8; 8],
+    len: u64,
+) -> Result<Scan, LogFault>
     requires longer { 9 < len }
     requires len { Plain (D.told disk.old) (D.honest disk.old) → len ≡ length (area_of area (D.seen disk.old)) }
 

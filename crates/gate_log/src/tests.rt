@@ -77,7 +77,10 @@ fn a_record_is_spelled(rt: HostRuntime) -> Result<(), Fail> {
     let mut disk = disk_of(rt.alloc(), &[])?;
     add(rt.alloc(), &mut disk, &head, b"a")?;
     let bytes = text_of(rt.alloc(), &mut disk, Area::Journal)?;
-    assert_eq!(rt; bytes.as_slice(), b"DELFJRN1\xA5\0\0\0\x1D\0\x1A\0\0\0\0\0\0\0\0\x01\0\0\0\0\0\0\0\0\0\0\0\0\0\0\0\0\x01a\0".as_slice());
+    assert_eq!(rt;
+        bytes.as_slice(),
+        b"DELFJRN1\xA5\0\0\0\x1D\0\x1A\0\0\0\0\0\0\0\0\x01\0\0\0\0\0\0\0\0\0\0\0\0\0\0\0\0\x01a\0".as_slice()
+    );
     let vault = text_of(rt.alloc(), &mut disk, Area::Vault)?;
     assert_eq!(rt; vault.as_slice(), b"vault".as_slice());
     Ok(())
@@ -87,7 +90,15 @@ fn a_record_is_spelled(rt: HostRuntime) -> Result<(), Fail> {
 #[test]
 fn gates_stand_between_records(rt: HostRuntime) -> Result<(), Fail> {
     let mut disk = disk_of(rt.alloc(), &[])?;
-    let sizes = [(26, 1), (26, 1), (34, 0), (29, 0), (30, 0), (21, 0), (21, 0)];
+    let sizes = [
+        (26, 1),
+        (26, 1),
+        (34, 0),
+        (29, 0),
+        (30, 0),
+        (21, 0),
+        (21, 0),
+    ];
     add_all(rt.alloc(), &mut disk, &sizes)?;
     let bytes = text_of(rt.alloc(), &mut disk, Area::Journal)?;
     assert_eq!(rt; bytes.len(), 247);
