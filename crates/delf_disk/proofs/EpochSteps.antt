@@ -1,5 +1,5 @@
 -- How the images of a disk in memory move with a write, and with a sync or a cut.
-use Rattle.std.proofs.Common.{◌≡◌, ◌⊎◌, inl, inr, ⊎_elim, ℕ, ◌+◌, ◌-◌, ◌≤◌, List, [], ◌∷◌, ◌++◌, length, take, refl, sym, ◌∙◌, ap, subst, arith, length-append}
+use Rattle.std.proofs.Common.{◌≡◌, ◌⊎◌, inl, inr, ⊎_elim, ℕ, ◌+◌, ◌-◌, List, [], ◌∷◌, ◌++◌, length, refl, sym, ◌∙◌, ap, subst, arith, length-append}
 use Rattle.std.proofs.lemmas.List.{take-append-le, take_all}
 use Rattle.std.proofs.lemmas.Bool.Decides.{leb_tells}
 use Rattle.delf_disk.specs.declared.past.Write.{Write}
@@ -7,18 +7,9 @@ use Rattle.delf_disk.specs.declared.past.Epoch.{Epoch}
 use Rattle.delf_disk.specs.declared.past.End.{End}
 use Rattle.delf_disk.specs.declared.past.End.TheVariants.{Synced, Cut}
 use Rattle.delf_disk.specs.Areas.{Areas}
-use Rattle.delf_disk.specs.Images.{Torn, Same, After, Moves, Only}
-use Rattle.delf_disk.specs.Epochs.{laid, laid_all, Reached, Image, picked, after_end, stable_after, moment_of, LeftIn, LeftSince}
+use Rattle.delf_disk.specs.Images.{Torn, Same, After, Moves}
+use Rattle.delf_disk.specs.Epochs.{laid_all, Image, after_end, stable_after, moment_of, LeftIn, LeftSince}
 use Rattle.delf_disk.proofs.Laid.{laid_torn, picked_reached, reached_push, laid_all-push}
-
--- nothing happened
-pub rests : (t : ℕ) (images : Areas → Type 0) (since : ℕ → Areas → Type 0) → Moves Same t t images images since since
-rests t images since = record {
-  later = omega arith;
-  follows = λ c now. (c, now, refl);
-  nothing_else = λ s c le left. inl left;
-  keeps = λ s c le left. left;
-}
 
 moment-push : (es : List Epoch) (ws : List Write) (w : Write) → moment_of es (ws ++ w ∷ []) ≡ moment_of es ws + 1
 unfolding moment_of

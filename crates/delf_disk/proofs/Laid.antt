@@ -1,16 +1,16 @@
 -- A write that is laid over an area is one of the torn ones, and so is what a cut of the power leaves of it.
-use Rattle.std.proofs.Common.{◌≡◌, ⊎_elim, ℕ, ◌+◌, ◌-◌, ◌/◌, ◌%◌, ◌≤◌, ◌==◌, min, max, Bool, true, false, cond, List, [], ◌∷◌, ◌++◌, length, take, drop, replicate, refl, sym, ◌∙◌, ap, subst, arith, length-append, length-take, length-drop}
-use Rattle.std.proofs.lemmas.List.{take-append-le, drop-append-le, drop_all, append-nil, take_all, take_min}
+use Rattle.std.proofs.Common.{◌≡◌, ⊎_elim, ℕ, ◌+◌, ◌-◌, ◌/◌, ◌%◌, ◌≤◌, ◌==◌, min, max, Bool, true, false, cond, List, [], ◌∷◌, ◌++◌, length, take, drop, replicate, refl, sym, ◌∙◌, ap, subst, arith, length-append, length-take}
+use Rattle.std.proofs.lemmas.List.{take-append-le, drop_all, append-nil, take_min}
 use Rattle.std.proofs.lemmas.Bool.Decides.{leb_tells}
 use Rattle.std.proofs.Math.ListN.{length-replicate}
 use Rattle.delf_disk.specs.declared.area.Area.{Area}
 use Rattle.delf_disk.specs.declared.area.Area.TheVariants.{Journal, Vault}
 use Rattle.delf_disk.specs.declared.past.Write.{Write}
 use Rattle.delf_disk.specs.Areas.{Areas, area_of, rest_of, with_area}
-use Rattle.delf_disk.specs.Images.{overwritten, TornAt, Torn, Written}
+use Rattle.delf_disk.specs.Images.{TornAt, Torn}
 use Rattle.delf_disk.specs.Laying.{padded, overlaid, overlaid_in}
 use Rattle.delf_disk.specs.Epochs.{laid, laid_all, left_of, picked, Reached}
-use Rattle.delf_disk.proofs.Writes.{torn_within, torn_wider, torn_none, torn_same, written_is_torn}
+use Rattle.delf_disk.proofs.Writes.{torn_within, torn_same, written_is_torn}
 
 pub area_of-with_area : (area : Area) (bytes : List ℕ) (areas : Areas) → area_of area (with_area area bytes areas) ≡ bytes
 area_of-with_area Journal bytes areas = refl
@@ -50,13 +50,6 @@ overlaid_torn at n bytes old short =
 pub overlaid_in_torn : (area : Area) (at n : ℕ) (bytes : List ℕ) (old : Areas) → length bytes ≤ n → Torn area at n old (overlaid_in area at bytes old)
 overlaid_in_torn area at n bytes old short = record {
   here = subst (λ l. TornAt at n (area_of area old) l) (sym (area_of-with_area area (overlaid at bytes (area_of area old)) old)) (overlaid_torn at n bytes (area_of area old) short);
-  other = rest_of-with_area area (overlaid at bytes (area_of area old)) old;
-}
-
--- inside an area it is a whole write
-pub overlaid_in_written : (area : Area) (at : ℕ) (bytes : List ℕ) (old : Areas) → at ≤ length (area_of area old) → Written area at bytes old (overlaid_in area at bytes old)
-overlaid_in_written area at bytes old within = record {
-  here = area_of-with_area area (overlaid at bytes (area_of area old)) old ∙ ap (λ (l : List ℕ). overwritten at bytes l) (padded_inside at (area_of area old) within);
   other = rest_of-with_area area (overlaid at bytes (area_of area old)) old;
 }
 

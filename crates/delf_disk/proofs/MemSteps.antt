@@ -1,26 +1,20 @@
 -- What the calls of a disk in memory make of it.
-use Rattle.std.proofs.Common.{◌≡◌, ◌⊎◌, ⊎_elim, true, ◌==◌, Vec, Global, ℕ, ◌+◌, ◌-◌, ◌^◌, ◌≤◌, ◌<◌, min, max, List, [], ◌∷◌, ◌++◌, length, Result, Err, refl, sym, ◌∙◌, ap, subst, arith, vec_len, vec_capacity}
+use Rattle.std.proofs.Common.{◌≡◌, ⊎_elim, true, ◌==◌, Vec, Global, ℕ, ◌+◌, ◌≤◌, ◌<◌, List, [], ◌∷◌, ◌++◌, length, refl, sym, ◌∙◌, ap, subst, arith, vec_len}
 use Rattle.std.proofs.lemmas.Bool.Decides.{eqb_tells}
 use Rattle.delf_disk.specs.declared.area.Area.{Area}
 use Rattle.delf_disk.specs.declared.area.Area.TheVariants.{Journal}
-use Rattle.delf_disk.specs.declared.area.Failed.{Failed}
 use Rattle.delf_disk.specs.declared.content.Content.{Content}
 use Rattle.delf_disk.specs.declared.past.Write.{Write}
 use Rattle.delf_disk.specs.declared.past.Epoch.{Epoch}
 use Rattle.delf_disk.specs.declared.past.End.{End}
 use Rattle.delf_disk.specs.Areas.{Areas}
-use Rattle.delf_disk.specs.Causes.{HasCause}
-use Rattle.delf_disk.specs.Content.{areas_of, room_of, KeepsRoom, HasRoom, IsRoomy}
+use Rattle.delf_disk.specs.Content.{areas_of, room_of, KeepsRoom, IsRoomy}
 use Rattle.delf_disk.specs.Images.{Torn, Same, Moves}
-use Rattle.delf_disk.specs.Plain.{NextCount}
 use Rattle.delf_disk.specs.Epochs.{laid, laid_all, end_of, Image, after_end, stable_after, moment_of, LeftSince}
 use Rattle.delf_disk.proofs.EpochSteps.{push_moves, end_moves, stable_after-end, image_of_none, end_is_image}
 use Rattle.delf_disk.proofs.Laid.{laid_all-push}
 use Rattle.delf_disk.proofs.Rooms.{has_room-push, has_room-kept}
 use Rattle.delf_disk.proofs.Writes.{same_areas}
-
-pub caused : {T : Type 0} (before mid now : ℕ) (failed : Failed) → before ≤ mid → NextCount mid now → HasCause {T = T} before now (Err failed)
-caused before mid now failed le more = record { later = omega (arith, le, more); stays = tt; failed = omega (arith, le, more) }
 
 -- a write has its place
 pub fits : (w : Write) (area : Area) (at : ℕ) (bytes : List ℕ) (content : Content) → w.area ≡ area → w.at ≡ at → w.bytes.items ≡ bytes

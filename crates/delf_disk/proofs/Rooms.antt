@@ -1,10 +1,10 @@
 -- Each of some writes has its place where there is room for all of them.
-use Rattle.std.proofs.Common.{◌≡◌, ℕ, zero, suc, ◌+◌, ◌≤◌, ◌<◌, max, List, [], ◌∷◌, ◌++◌, length, get_or, refl, sym, ◌∙◌, ap, subst, arith, vec_capacity}
+use Rattle.std.proofs.Common.{◌≡◌, ℕ, zero, suc, ◌≤◌, ◌<◌, max, List, [], ◌∷◌, ◌++◌, length, get_or, refl, sym, subst, arith}
 use Rattle.delf_disk.specs.declared.area.Area.{Area}
 use Rattle.delf_disk.specs.declared.area.Area.TheVariants.{Journal, Vault}
 use Rattle.delf_disk.specs.declared.content.Content.{Content}
 use Rattle.delf_disk.specs.declared.past.Write.{Write}
-use Rattle.delf_disk.specs.Content.{room_of, KeepsRoom, HasRoom, IsRoomy}
+use Rattle.delf_disk.specs.Content.{room_of, KeepsRoom, HasRoom}
 use Rattle.delf_disk.specs.Epochs.{end_of, if_same, reach}
 
 if_same-same : (area : Area) (n : ℕ) → if_same area area n ≡ n
@@ -28,9 +28,6 @@ pub room_at : (ws : List Write) (i : ℕ) (w : Write) (old new : Content) → i 
 room_at ws i w old new within is room keeps =
     let at : if_same w.area w.area (end_of w) ≤ reach w.area ws = reach_at w.area ws i w within is in
     omega (arith, at, if_same-same w.area (end_of w), reach_in w.area ws old room, keeps_room w.area old new keeps)
-
-pub keeps_room-then : (a b c : Content) → KeepsRoom a b → KeepsRoom b c → KeepsRoom a c
-keeps_room-then a b c one two = record { journal = omega (arith, one.journal, two.journal); vault = omega (arith, one.vault, two.vault) }
 
 pub has_room-kept : (ws : List Write) (old new : Content) → HasRoom ws old → KeepsRoom old new → HasRoom ws new
 has_room-kept ws old new room keeps = record { journal = omega (arith, room.journal, keeps.journal); vault = omega (arith, room.vault, keeps.vault) }

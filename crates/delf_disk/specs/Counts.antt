@@ -1,5 +1,5 @@
 -- Which calls of a disk in memory fail.
-use Rattle.std.specs.Prelude.{◌≡◌, ◌⊎◌, ℕ, ◌+◌, ◌-◌, ◌^◌, ◌<◌, min, List, Contains, Result, IsErr, OnOk}
+use Rattle.std.specs.Prelude.{◌≡◌, ◌⊎◌, ℕ, ◌+◌, ◌-◌, ◌^◌, min, List, Contains, Result, IsErr, OnOk}
 use Rattle.delf_disk.specs.declared.area.Failed.{Failed}
 use Rattle.delf_disk.specs.Causes.{Rose}
 

@@ -1,6 +1,6 @@
 -- The images now are those since now, and some of those since each earlier moment.
-use Rattle.std.specs.Prelude.{◌≡◌, ◌⊎◌, ℕ, ◌+◌, ◌-◌, ◌≤◌, List, [], ◌∷◌, length, take}
-use Rattle.std.proofs.Common.{inl, inr, ⊎_elim, sym, ◌∙◌, subst, arith}
+use Rattle.std.specs.Prelude.{◌≡◌, ℕ, ◌+◌, ◌-◌, ◌≤◌, List, [], ◌∷◌, length}
+use Rattle.std.proofs.Common.{inl, inr, ⊎_elim, sym, subst, arith}
 use Rattle.std.proofs.lemmas.List.{take_all}
 use Rattle.delf_disk.specs.declared.past.Write.{Write}
 use Rattle.delf_disk.specs.declared.past.Epoch.{Epoch}

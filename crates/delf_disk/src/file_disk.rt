@@ -26,7 +26,12 @@ pub struct FileDisk<'a, R: Files + Sync> {
 
 impl<'a, R: Files + Sync> FileDisk<'a, R> {
     /// The disk in this folder, which has to be there. No file is touched yet.
-    pub fn at(rt: &'a R, alloc: Global, folder: &str) -> Result<FileDisk<'a, R>, AllocError> {
+    pub fn at(rt: &'a R, alloc: Global, folder: &str) -> Result<FileDisk<'a, R>, AllocError>
+        ensures faults { IfOk result (λ disk. ⟦<FileDisk<'a, R> as Disk>⟧.faults disk ≡ 0) }
+        ensures fuse { IfOk result (λ disk. ⟦<FileDisk<'a, R> as Disk>⟧.fuse disk ≡ 0) }
+        ensures order { IfOk result (λ disk. ⟦<FileDisk<'a, R> as Disk>⟧.order disk ≡ Order.Nothing) }
+        ensures orders { IfOk result (λ disk. ⟦<FileDisk<'a, R> as Disk>⟧.orders disk ≡ 0) }
+    {
         Ok(FileDisk {
             rt,
             files: Lazy::of(Paths::of(alloc, folder)?),

@@ -117,7 +117,9 @@ impl<F: Read + Write + Seek + OpenFile + Drop> OpenFiles<F> {
 fn open_files<R: Files>(rt: &R, paths: &Paths) -> io::Result<OpenFiles<R::File>> {
     let journal = open_area(rt, paths.journal.as_str())?;
     let vault = open_area(rt, paths.vault.as_str())?;
-    let folder = OpenOptions::new().read(true).open(rt, paths.folder.as_str())?;
+    let folder = OpenOptions::new()
+        .read(true)
+        .open(rt, paths.folder.as_str())?;
     folder.sync_all()?;
     Ok(OpenFiles { journal, vault })
 }

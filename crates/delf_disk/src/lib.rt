@@ -13,9 +13,11 @@ mod files;
 mod lists;
 mod mem_disk;
 mod past;
+#[cfg(test)]
+mod tests;
 
 pub use area::{Area, Failed, Order};
 pub use disk::{Disk, Rig};
-pub use lists::{Bytes, Numbers};
 pub use file_disk::FileDisk;
+pub use lists::{Bytes, Numbers};
 pub use mem_disk::MemDisk;

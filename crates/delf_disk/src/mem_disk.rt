@@ -14,7 +14,7 @@ use crate::content::Content;
 use crate::counts::Counts;
 use crate::disk::{Disk, Rig};
 use crate::lists::{Bytes, Numbers};
-use crate::past::{End, Epoch, Write, end_epoch};
+use crate::past::{End, Epoch, Write, end_epoch, reserve_write};
 use std::alloc::{AllocError, Global};
 
 /// Both areas in memory.
@@ -112,7 +112,7 @@ impl MemDisk {
         };
         self.live.reserve(area, end)?;
         self.stable.reserve(area, end)?;
-        self.pending.reserve(1)?;
+        reserve_write(&mut self.pending)?;
         self.past.reserve(1)?;
         Ok(Write {
             area,

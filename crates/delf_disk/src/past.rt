@@ -1,7 +1,7 @@
-ghost use Rattle.std.specs.Prelude.{◌≡◌, ◌<◌, [], ◌∷◌, ◌++◌, vec_len, vec_capacity};
+ghost use Rattle.std.specs.Prelude.{◌≡◌, ◌<◌, [], ◌∷◌, ◌++◌, vec_len, vec_capacity, OnOk};
 
 use crate::area::Area;
-use std::alloc::Global;
+use std::alloc::{AllocError, Global};
 use std::mem;
 
 /// A write that a disk in memory was told to make.
@@ -38,4 +38,16 @@ pub(crate) fn end_epoch(alloc: Global, pending: &mut Vec<Write>, past: &mut Vec<
 {
     let writes = mem::replace(pending, Vec::new(alloc));
     past.push_reserved(Epoch { writes, end });
+}
+
+// Makes room for one write more. Most epochs have one alone, and all of them are kept, so the first
+// takes no room for others.
+pub(crate) fn reserve_write(pending: &mut Vec<Write>) -> Result<(), AllocError>
+    ensures items { pending.new.items ≡ pending.old.items }
+    ensures ok { OnOk result (vec_len pending.new < vec_capacity pending.new) }
+{
+    if pending.is_empty() {
+        return pending.reserve_exact(1);
+    }
+    pending.reserve(1)
 }
