@@ -1,9 +1,9 @@
 -- What the last gate of a log, closed, and zeros behind its closed gate make of it.
-use Rattle.std.proofs.Common.{◌≡◌, ◌⊎◌, inl, inr, ℕ, suc, ◌+◌, ◌-◌, ◌<◌, ◌≤◌, List, [], ◌∷◌, ◌++◌, length, map, take, drop, replicate, refl, sym, ◌∙◌, ap, subst, arith, append_assoc, length-append}
+use Rattle.std.proofs.Common.{◌≡◌, inl, inr, ℕ, suc, ◌+◌, ◌-◌, ◌<◌, List, [], ◌∷◌, ◌++◌, length, map, take, drop, replicate, refl, sym, ◌∙◌, ap, subst, arith, append_assoc, length-append}
 use Rattle.std.proofs.lemmas.Bool.{cases_eq}
 use Rattle.std.proofs.lemmas.List.{take_at, drop_all, append-nil, map-append, length-replicate}
 use Rattle.delf_disk.specs.declared.area.Area.{Area}
-use Rattle.delf_disk.specs.Areas.{Areas, area_of, rest_of}
+use Rattle.delf_disk.specs.Areas.{Areas, area_of}
 use Rattle.delf_disk.specs.Images.{overwritten, TornAt, Torn, Written}
 use Rattle.delf_disk.proofs.Writes.{torn_split, written_split}
 use Rattle.gate_log.specs.Records.{Record, size_of, body, spelled, AreBounded}

@@ -1,11 +1,11 @@
 -- What each write of a commit makes of an area.
-use Rattle.std.proofs.Common.{◌≡◌, ◌≢◌, ◌⊎◌, inl, inr, ℕ, suc, ◌+◌, ◌≤◌, List, [], ◌∷◌, ◌++◌, length, drop, refl, sym, ◌∙◌, ap, subst, arith, append_assoc, length-append}
+use Rattle.std.proofs.Common.{◌≡◌, ◌≢◌, ◌⊎◌, inl, inr, ℕ, ◌+◌, ◌≤◌, List, [], ◌∷◌, ◌++◌, length, drop, refl, sym, ◌∙◌, ap, subst, arith, append_assoc, length-append}
 use Rattle.std.proofs.lemmas.Bool.{cases_eq}
 use Rattle.delf_disk.specs.declared.area.Area.{Area}
-use Rattle.delf_disk.specs.Areas.{Areas, area_of, rest_of}
-use Rattle.delf_disk.specs.Images.{overwritten, TornAt, Torn, Written, After, Only}
-use Rattle.delf_disk.proofs.Writes.{Parted, torn_split, written_split}
-use Rattle.gate_log.specs.Gates.{Shut, Open, IsShut, ShutIn, MayOpen, Opens, MayChange, Closes}
+use Rattle.delf_disk.specs.Areas.{Areas, area_of}
+use Rattle.delf_disk.specs.Images.{overwritten, TornAt, Torn, Written}
+use Rattle.delf_disk.proofs.Writes.{torn_split, written_split}
+use Rattle.gate_log.specs.Gates.{Shut, Open, MayOpen, Opens, MayChange, Closes}
 
 -- a closed gate with the line behind it
 pub record Staged (front line bytes : List ℕ) : Type 0 where

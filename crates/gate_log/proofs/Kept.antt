@@ -1,5 +1,5 @@
 -- The places that a log keeps, with one more.
-use Rattle.std.proofs.Common.{◌≡◌, ℕ, ◌+◌, List, [], ◌∷◌, ◌++◌, map, sym, ◌∙◌, ap, arith}
+use Rattle.std.proofs.Common.{◌≡◌, ℕ, ◌+◌, List, [], ◌∷◌, ◌++◌, sym, ◌∙◌, ap, arith}
 use Rattle.std.proofs.lemmas.List.{map-append}
 use Rattle.gate_log.specs.declared.scan.Place.{Place}
 use Rattle.gate_log.specs.Places.{end_from, gates_from, size_at, gate_at, sizes_at, gates_at, AreTied}

@@ -1,10 +1,10 @@
 -- What stands behind an open gate, from the six bytes that are read there.
-use Rattle.std.proofs.Common.{◌≡◌, ◌⊎◌, ⊎_elim, ℕ, zero, suc, ◌+◌, ◌-◌, ◌^◌, ◌<◌, ◌≤◌, List, [], ◌∷◌, ◌++◌, length, get_or, take, drop, refl, sym, ◌∙◌, ap, subst, arith, append_assoc, length-append, length-take, length-drop, take-append-drop}
+use Rattle.std.proofs.Common.{◌≡◌, ⊎_elim, ℕ, zero, suc, ◌+◌, ◌^◌, ◌<◌, ◌≤◌, List, [], ◌∷◌, ◌++◌, length, get_or, take, drop, refl, sym, ◌∙◌, ap, subst, arith, append_assoc, length-append, length-take, length-drop, take-append-drop}
 use Rattle.std.specs.Int.{w16, w32, to_be_bytes, from_be_bytes}
 use Rattle.std.proofs.lemmas.Nat.{be_bytes_2, be_bytes_4, from_be_bytes-to_be_bytes_2, from_be_bytes-to_be_bytes_4}
-use Rattle.std.proofs.lemmas.List.{drop_more, get_or-take, get_or-drop, get_or_past, drop-drop}
+use Rattle.std.proofs.lemmas.List.{drop_more, get_or-take, get_or-drop}
 use Rattle.gate_log.specs.declared.lengths.Lengths.{Lengths}
-use Rattle.gate_log.specs.Records.{body, IsBounded}
+use Rattle.gate_log.specs.Records.{body}
 use Rattle.gate_log.specs.Opening.{Fits, IsUnfit}
 use Rattle.gate_log.specs.Looking.{Told, TellNone, OpenAt, BrokenAt}
 use Rattle.gate_log.proofs.Rows.{length-body}

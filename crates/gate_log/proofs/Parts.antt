@@ -1,8 +1,8 @@
 -- The bytes of a log round the head and the payload of one record.
-use Rattle.std.proofs.Common.{◌≡◌, ℕ, zero, suc, ◌+◌, ◌<◌, List, [], ◌∷◌, ◌++◌, length, map, take, drop, refl, sym, ◌∙◌, ap, subst, arith, append_assoc, length-append}
+use Rattle.std.proofs.Common.{◌≡◌, ℕ, zero, suc, ◌+◌, ◌<◌, List, [], ◌∷◌, ◌++◌, length, map, take, drop, refl, sym, ◌∙◌, ap, arith, append_assoc, length-append}
 use Rattle.std.proofs.lemmas.List.{take_at, drop_at, length-map}
 use Rattle.std.specs.Int.{w16, w32, to_be_bytes}
-use Rattle.gate_log.specs.Records.{Record, size_of, body, spelled, IsBounded, AreBounded, head_of, payload_of, replaced}
+use Rattle.gate_log.specs.Records.{Record, size_of, body, spelled, AreBounded, head_of, payload_of, replaced}
 use Rattle.gate_log.specs.Logs.{Log, Keeps}
 use Rattle.gate_log.specs.Places.{gate_from, size_in}
 use Rattle.gate_log.proofs.Rows.{length-body}

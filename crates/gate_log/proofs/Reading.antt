@@ -1,5 +1,5 @@
 -- The records that a scan has come past.
-use Rattle.std.proofs.Common.{◌≡◌, ℕ, ◌+◌, ◌<◌, List, [], ◌∷◌, ◌++◌, length, map, take, drop, refl, sym, ◌∙◌, ap, subst, arith, append_assoc, length-append, length-take, take-append-drop}
+use Rattle.std.proofs.Common.{◌≡◌, ℕ, ◌<◌, List, [], ◌∷◌, ◌++◌, length, map, take, drop, sym, ◌∙◌, ap, append_assoc, take-append-drop}
 use Rattle.std.proofs.lemmas.List.{map-append, drop_at, append-nil}
 use Rattle.gate_log.specs.declared.lengths.Lengths.{Lengths}
 use Rattle.gate_log.specs.declared.scan.Place.{Place}

@@ -1,13 +1,13 @@
 -- Records one after another: where they end, and one more behind them.
-use Rattle.std.proofs.Common.{◌≡◌, ◌≢◌, ◌⊎◌, inl, inr, ⊎_elim, ℕ, zero, suc, ◌+◌, ◌<◌, ◌≤◌, List, [], ◌∷◌, ◌++◌, length, map, refl, sym, ◌∙◌, ap, subst, arith, append_assoc, length-append}
+use Rattle.std.proofs.Common.{◌≡◌, inl, inr, ⊎_elim, ℕ, ◌+◌, ◌<◌, List, [], ◌∷◌, ◌++◌, length, map, refl, sym, ◌∙◌, ap, subst, arith, append_assoc, length-append}
 use Rattle.std.proofs.lemmas.List.{map-append}
 use Rattle.std.specs.Int.{w16, w32, to_be_bytes}
 use Rattle.delf_disk.specs.declared.area.Area.{Area}
-use Rattle.delf_disk.specs.Areas.{Areas, area_of, rest_of}
+use Rattle.delf_disk.specs.Areas.{Areas, area_of}
 use Rattle.gate_log.specs.Records.{Record, size_of, body, spelled, IsBounded, AreBounded}
 use Rattle.gate_log.specs.Logs.{Log, Stands, StandIn}
 use Rattle.gate_log.specs.Steps.{MayAdd, Adds}
-use Rattle.gate_log.specs.Gates.{Shut, Open, IsShut, ShutIn, MayOpen, Opens}
+use Rattle.gate_log.specs.Gates.{Shut, Open, ShutIn, MayOpen, Opens}
 use Rattle.gate_log.specs.Places.{end_from, gates_from}
 
 pub length-body : (head payload : List ℕ) → length (body head payload) ≡ 6 + length head + length payload

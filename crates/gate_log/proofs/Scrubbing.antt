@@ -1,15 +1,15 @@
 -- What a torn write and a whole one over the payload of a record make of a log.
-use Rattle.std.proofs.Common.{◌≡◌, ℕ, ◌+◌, ◌<◌, ◌≤◌, List, [], ◌∷◌, ◌++◌, length, map, take, drop, replicate, refl, sym, ◌∙◌, ap, subst, arith, length-append, length-take, length-drop, take-append-drop}
+use Rattle.std.proofs.Common.{◌≡◌, ℕ, ◌+◌, ◌<◌, ◌≤◌, List, [], ◌∷◌, ◌++◌, length, map, take, drop, replicate, sym, ◌∙◌, ap, subst, arith, length-append, length-take, length-drop, take-append-drop}
 use Rattle.std.proofs.lemmas.List.{take_at, drop_at, length-replicate, nil_from_length}
 use Rattle.delf_disk.specs.declared.area.Area.{Area}
-use Rattle.delf_disk.specs.Areas.{Areas, area_of, rest_of}
+use Rattle.delf_disk.specs.Areas.{Areas, area_of}
 use Rattle.delf_disk.specs.Images.{overwritten, TornAt, Torn, Written}
 use Rattle.delf_disk.proofs.Writes.{torn_split, written_split}
 use Rattle.gate_log.specs.Records.{Record, size_of, head_of, payload_of, replaced}
-use Rattle.gate_log.specs.Logs.{Log, Keeps, Stands}
+use Rattle.gate_log.specs.Logs.{Keeps, Stands}
 use Rattle.gate_log.specs.Places.{gate_from, size_in}
 use Rattle.gate_log.specs.Steps.{MayScrub, Scrubs, HeadRead, PayloadRead}
-use Rattle.gate_log.proofs.Parts.{Parts, parts, HeadParts, head_parts, head_size, payload_size, sizes-replaced, inside_log, part_read, log_parts, log_head, length-before, length-before_head, replaced_log}
+use Rattle.gate_log.proofs.Parts.{parts, head_parts, head_size, payload_size, sizes-replaced, inside_log, part_read, log_parts, log_head, length-before, length-before_head, replaced_log}
 
 module _ (area : Area) (sizes : List (ℕ × ℕ)) (i at n : ℕ) (inside : i < length sizes) (place : at ≡ gate_from 8 sizes i + 7 + (size_in sizes i).0) (size : n ≡ (size_in sizes i).1) where
   -- the payload is as long as the log says

@@ -1,6 +1,6 @@
 -- Where the head and the payload of a record stand, by the places that a log keeps.
-use Rattle.std.proofs.Common.{◌≡◌, ℕ, zero, suc, ◌+◌, ◌-◌, ◌<◌, ◌≤◌, List, [], ◌∷◌, ◌++◌, length, map, take, drop, get_or, refl, sym, ◌∙◌, ap, subst, arith, length-append}
-use Rattle.std.proofs.lemmas.List.{take_at, take-map, length-map}
+use Rattle.std.proofs.Common.{◌≡◌, ℕ, zero, suc, ◌+◌, ◌<◌, ◌≤◌, List, [], ◌∷◌, length, take, get_or, refl, sym, ◌∙◌, ap, arith}
+use Rattle.std.proofs.lemmas.List.{take-map, length-map}
 use Rattle.gate_log.specs.declared.scan.Place.{Place}
 use Rattle.gate_log.specs.Places.{end_from, gates_from, gate_from, size_in, size_at, gate_at, sizes_at, gates_at, AreTied}
 

@@ -1,5 +1,5 @@
 -- An area stands for one list of records.
-use Rattle.std.proofs.Common.{◌≡◌, ◌≢◌, ℕ, zero, suc, ◌+◌, ◌-◌, ◌^◌, ◌<◌, ◌≤◌, List, [], ◌∷◌, ◌++◌, length, take, drop, Result, Ok, Err, refl, sym, ◌∙◌, ap, subst, arith, append_assoc, length-append}
+use Rattle.std.proofs.Common.{◌≡◌, ◌≢◌, ℕ, zero, suc, ◌+◌, ◌-◌, ◌<◌, ◌≤◌, List, [], ◌∷◌, ◌++◌, length, take, drop, Result, Ok, Err, refl, sym, ◌∙◌, ap, arith, append_assoc, length-append}
 use Rattle.std.proofs.lemmas.List.{take_at, drop_at, drop-drop, append_cancel_left}
 use Rattle.std.proofs.lemmas.Bool.Decides.{nat_tests}
 use Rattle.std.proofs.lemmas.Nat.{from_be_bytes-to_be_bytes_2, from_be_bytes-to_be_bytes_4}
@@ -85,9 +85,9 @@ pub one_log : (mark : List ℕ) (rs : List Record) (other : List ℕ) (ss : List
 one_log mark rs other ss bytes a b = sym (records-log mark rs bytes a) ∙ records-log other ss bytes b
 
 -- a record, with a gate behind it, fits
-fitting : (head payload : List ℕ) (rs : List Record) (v : ℕ) (x rest : List ℕ) → IsBounded head payload → rest ≡ body head payload ++ (spelled rs ++ v ∷ x) → Fits head payload rest
-fitting head payload [] v x rest fits is = record { bounded = fits; gate = v; tail = x; split = is }
-fitting head payload (r ∷ rs) v x rest fits is = record { bounded = fits; gate = 165; tail = body r.head r.payload ++ spelled rs ++ v ∷ x; split = is }
+fitting : (head payload : List ℕ) (rs : List Record) (v : ℕ) (x bytes : List ℕ) → IsBounded head payload → bytes ≡ body head payload ++ (spelled rs ++ v ∷ x) → Fits head payload bytes
+fitting head payload [] v x bytes fits is = record { bounded = fits; gate = v; tail = x; split = is }
+fitting head payload (r ∷ rs) v x bytes fits is = record { bounded = fits; gate = 165; tail = body r.head r.payload ++ spelled rs ++ v ∷ x; split = is }
 
 -- two bodies at the front of the same bytes are as long
 same_bodies : (h p h' p' x y : List ℕ) → IsBounded h p → IsBounded h' p' → body h p ++ x ≡ body h' p' ++ y → (length (body h p) ≡ length (body h' p')) × (x ≡ y)

@@ -1,5 +1,5 @@
 -- What a log keeps of its records.
-use Rattle.std.specs.Prelude.{ℕ, ◌+◌, ◌*◌, ◌^◌, ◌<◌, ◌≤◌, vec_len, vec_capacity}
+use Rattle.std.specs.Prelude.{◌+◌, ◌*◌, ◌^◌, ◌<◌, ◌≤◌, vec_len, vec_capacity}
 use Rattle.gate_log.specs.declared.log.GateLog.TheInside.{Inside}
 use Rattle.gate_log.specs.Places.{sizes_at, AreTied}
 use Rattle.gate_log.specs.View.{LogView}

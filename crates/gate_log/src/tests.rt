@@ -54,6 +54,55 @@ fn add_all<D: Disk>(alloc: Global, disk: &mut D, sizes: &[(u8, u8)]) -> Result<(
     Ok(())
 }
 
+// Starts the log of the journal, scrubs its first record and settles.
+fn scrub_first<D: Disk>(alloc: Global, disk: &mut D) -> Result<(), Fail>
+    requires { Plain (D.told disk.old) (D.honest disk.old) → Only (D.seen disk.old) (D.may_leave disk.old) }
+    ensures { OnOk result (Plain (D.told disk.new) (D.honest disk.new) → Only (D.seen disk.new) (D.may_leave disk.new)) }
+{
+    let mut log = GateLog::start(alloc, disk, Area::Journal, MARK)?;
+    if log.count() == 0 {
+        return Ok(());
+    }
+    log.scrub(disk, 0)?;
+    log.settle(disk)?;
+    Ok(())
+}
+
+// Starts the log of the journal, drops its last record and settles.
+fn drop_one<D: Disk>(alloc: Global, disk: &mut D) -> Result<(), Fail>
+    requires { Plain (D.told disk.old) (D.honest disk.old) → Only (D.seen disk.old) (D.may_leave disk.old) }
+{
+    let mut log = GateLog::start(alloc, disk, Area::Journal, MARK)?;
+    if log.count() == 0 {
+        return Ok(());
+    }
+    log.drop_last(disk)?;
+    log.settle(disk)?;
+    Ok(())
+}
+
+// Starts the log of the journal and reads the head and the payload of its last record, each to the front of `buf`.
+fn read_last<D: Disk>(alloc: Global, disk: &mut D, buf: &mut [u8; 128]) -> Result<(u16, u16), Fail>
+    requires { Plain (D.told disk.old) (D.honest disk.old) → Only (D.seen disk.old) (D.may_leave disk.old) }
+{
+    let log = GateLog::start(alloc, disk, Area::Journal, MARK)?;
+    let count = log.count();
+    if count == 0 {
+        return Ok((0, 0));
+    }
+    let last = count - 1;
+    let (head, payload) = log.sizes(last);
+    if head > 128 {
+        return Ok((0, 0));
+    }
+    if payload > 128 {
+        return Ok((0, 0));
+    }
+    let head = log.read_head(disk, last, buf)?;
+    let payload = log.read_payload(disk, last, buf)?;
+    Ok((head, payload))
+}
+
 // Two records, of which the second may not come to stand. Then the power fails, and the log is started again: how
 // many records it has, and whether the second was acknowledged.
 fn torn<R: Rig>(alloc: Global, disk: &mut R, pick: u64) -> Result<(u32, bool), Fail>
@@ -141,5 +190,33 @@ fn a_torn_append_leaves_the_old_records_or_the_new(rt: HostRuntime) -> Result<()
     let (found, added) = torn(rt.alloc(), &mut disk, 0)?;
     assert!(rt; added);
     assert_eq!(rt; found, 2);
+    Ok(())
+}
+
+#[test]
+fn records_are_scrubbed_dropped_and_settled(rt: HostRuntime) -> Result<(), Fail> {
+    let mut disk = disk_of(rt.alloc(), &[])?;
+    add(rt.alloc(), &mut disk, b"head", b"first")?;
+    add(rt.alloc(), &mut disk, b"next", b"second")?;
+    scrub_first(rt.alloc(), &mut disk)?;
+    drop_one(rt.alloc(), &mut disk)?;
+    let bytes = text_of(rt.alloc(), &mut disk, Area::Journal)?;
+    assert_eq!(rt;
+        bytes.as_slice(),
+        b"DELFJRN1\xA5\0\0\0\x0B\0\x04head\0\0\0\0\0\0\0\0\0\0\0\0\0\0\0\0\0\0\0\0\0\0\0".as_slice()
+    );
+    Ok(())
+}
+
+#[test]
+fn a_record_is_read(rt: HostRuntime) -> Result<(), Fail> {
+    let mut disk = disk_of(rt.alloc(), &[])?;
+    add(rt.alloc(), &mut disk, b"head", b"first")?;
+    add(rt.alloc(), &mut disk, b"next", b"second")?;
+    let mut buf = [0u8; 128];
+    let (head, payload) = read_last(rt.alloc(), &mut disk, &mut buf)?;
+    assert_eq!(rt; head, 4);
+    assert_eq!(rt; payload, 6);
+    assert_eq!(rt; &buf[..6], b"second".as_slice());
     Ok(())
 }

@@ -1,5 +1,5 @@
 -- Each exit has one line for each disk call made so far.
-use Rattle.std.proofs.Common.{◌+◌, [], ◌∷◌, length, sym, ◌∙◌, ap, subst}
+use Rattle.std.proofs.Common.{[], ◌∷◌, length, sym, subst}
 use Rattle.delf_disk.specs.Areas.{Areas}
 use Rattle.std.proofs.lemmas.Result.{on_ok_weaker}
 use Rattle.delf_disk.specs.Images.{Torn, Written}

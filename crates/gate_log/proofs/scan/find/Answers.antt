@@ -1,4 +1,4 @@
-use Rattle.std.proofs.Common.{◌≡◌, ℕ, List, length, take, arith, rules}
+use Rattle.std.proofs.Common.{rules}
 use Rattle.delf_disk.specs.Areas.{area_of}
 use Rattle.delf_disk.specs.Plain.{Plain}
 use Rattle.gate_log.specs.Looking.{Scanned}

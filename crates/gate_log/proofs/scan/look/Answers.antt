@@ -1,5 +1,5 @@
 -- What the two reads tell of the gate and of the six bytes behind it.
-use Rattle.std.proofs.Common.{◌≡◌, ◌+◌, ◌<◌, ℕ, List, length, take, drop, refl, sym, ◌∙◌, ap, arith, length-drop}
+use Rattle.std.proofs.Common.{◌+◌, take, drop, refl, ◌∙◌, ap, arith, length-drop}
 use Rattle.delf_disk.specs.Areas.{Areas, area_of}
 use Rattle.delf_disk.specs.Images.{Same}
 use Rattle.delf_disk.proofs.Flags.{stays_plain}

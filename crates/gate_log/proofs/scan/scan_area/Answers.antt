@@ -1,5 +1,5 @@
 -- One record more.
-use Rattle.std.proofs.Common.{◌≡◌, ◌+◌, ◌<◌, ℕ, List, length, take, refl, ◌∙◌, ap, subst, arith, length-take}
+use Rattle.std.proofs.Common.{◌≡◌, ◌+◌, length, take, refl, ◌∙◌, subst, arith, length-take}
 use Rattle.delf_disk.specs.Areas.{Areas, area_of}
 use Rattle.delf_disk.proofs.Flags.{stays_plain, same_kinds}
 use Rattle.delf_disk.proofs.Moments.{same_on}

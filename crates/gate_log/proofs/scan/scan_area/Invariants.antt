@@ -1,4 +1,4 @@
-use Rattle.std.proofs.Common.{◌≡◌, ◌+◌, ◌-◌, ◌^◌, ◌<◌, ℕ, take, vec_len}
+use Rattle.std.proofs.Common.{◌≡◌, ◌-◌, ◌^◌, ◌<◌, take, vec_len}
 use Rattle.delf_disk.specs.Areas.{area_of}
 use Rattle.delf_disk.specs.Images.{Same}
 use Rattle.delf_disk.specs.Plain.{Plain, SameKind}

@@ -1,7 +1,6 @@
-use Rattle.std.proofs.Common.{◌≡◌, ℕ, ◌-◌, ◌≤◌, List, length, take, replicate, ◌∙◌, ap, subst, OnOk, arith}
+use Rattle.std.proofs.Common.{◌≡◌, ℕ, ◌≤◌, List, length, take, replicate, ◌∙◌, ap, subst, OnOk}
 use Rattle.std.proofs.lemmas.List.{take-replicate}
 use Rattle.delf_disk.specs.Images.{Torn, Written}
-use Rattle.delf_disk.specs.Moments.{Runs}
 use Rattle.delf_disk.specs.Plain.{Plain}
 use Rattle.delf_disk.proofs.Moments.{started, called}
 use Rattle.delf_disk.proofs.Writes.{torn_same}

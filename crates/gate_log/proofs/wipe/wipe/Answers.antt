@@ -1,7 +1,7 @@
 -- One piece more.
-use Rattle.std.proofs.Common.{◌≡◌, ◌+◌, ◌≤◌, ℕ, List, ◌++◌, length, replicate, refl, sym, ◌∙◌, ap, subst, arith}
+use Rattle.std.proofs.Common.{◌+◌, ◌≤◌, ℕ, List, replicate, sym, ◌∙◌, subst, arith}
 use Rattle.std.proofs.lemmas.List.{length-replicate, replicate-append-replicate}
-use Rattle.delf_disk.specs.Images.{Torn, Written}
+use Rattle.delf_disk.specs.Images.{Written}
 use Rattle.delf_disk.proofs.Flags.{stays_plain, same_kinds}
 use Rattle.delf_disk.proofs.Moments.{ran}
 use Rattle.delf_disk.proofs.Writes.{torn_then, written_then}

@@ -1,13 +1,12 @@
 -- What a commit does to a gate, told of the log's records.
-use Rattle.std.proofs.Common.{◌≡◌, ◌<◌, ◌≤◌, ◌+◌, ℕ, [], ◌∷◌, ◌++◌, List, length, refl, sym, ◌∙◌, ap, subst, arith, length-append, rules}
+use Rattle.std.proofs.Common.{◌≡◌, ◌<◌, ◌≤◌, ◌+◌, ℕ, [], ◌∷◌, List, length, refl, sym, ◌∙◌, ap, subst, arith, length-append}
 use Rattle.delf_disk.specs.Areas.{Areas}
 use Rattle.delf_disk.specs.Moments.{Runs}
 use Rattle.delf_disk.proofs.Moments.{widened}
 use Rattle.gate_log.specs.Records.{body, IsBounded}
 use Rattle.gate_log.specs.Logs.{Stands, StandIn}
-use Rattle.gate_log.specs.Gates.{ShutIn}
 use Rattle.gate_log.specs.Steps.{MayAdd, Adds}
-use Rattle.gate_log.specs.Places.{end_from, sizes_at}
+use Rattle.gate_log.specs.Places.{sizes_at}
 use Rattle.gate_log.specs.View.{LogView}
 use Rattle.gate_log.proofs.Rows.{length-body, stand_shut, may_add, adds, added_stands}
 use Rattle.gate_log.proofs.Kept.{sizes_at-push, tied_pushed}

@@ -1,7 +1,7 @@
 -- What the last gate, closed, makes of a log.
-use Rattle.std.proofs.Common.{◌≡◌, ◌+◌, ◌-◌, ◌≤◌, ◌<◌, ℕ, List, length, take, refl, sym, ◌∙◌, ap, subst, arith}
+use Rattle.std.proofs.Common.{◌≡◌, ◌-◌, ◌<◌, ℕ, List, length, take, refl, sym, ◌∙◌, ap, subst, arith}
 use Rattle.std.proofs.lemmas.List.{length-map}
-use Rattle.delf_disk.specs.Areas.{Areas, area_of}
+use Rattle.delf_disk.specs.Areas.{Areas}
 use Rattle.delf_disk.specs.Moments.{Runs}
 use Rattle.delf_disk.proofs.Moments.{widened}
 use Rattle.gate_log.specs.declared.scan.Place.{Place}

@@ -1,7 +1,7 @@
 -- What a read of the place that is kept gives.
-use Rattle.std.proofs.Common.{◌≡◌, ◌+◌, ◌≤◌, ◌<◌, ℕ, List, length, take, drop, sym, ◌∙◌, ap, subst, arith, length-take}
+use Rattle.std.proofs.Common.{◌≡◌, ◌+◌, ◌≤◌, length, take, drop, sym, ap, subst, arith, length-take}
 use Rattle.delf_disk.specs.declared.area.Area.{Area}
-use Rattle.delf_disk.specs.Areas.{Areas, area_of}
+use Rattle.delf_disk.specs.Areas.{area_of}
 use Rattle.gate_log.specs.View.{LogView}
 use Rattle.gate_log.proofs.Rows.{log_longer}
 use Rattle.gate_log.proofs.Spans.{span_within}

@@ -1,8 +1,8 @@
 -- What zeros over one payload make of a log.
-use Rattle.std.proofs.Common.{◌≡◌, ◌+◌, ◌≤◌, ◌<◌, ℕ, List, length, sym, ◌∙◌, ap, subst, arith}
+use Rattle.std.proofs.Common.{◌+◌, ◌≤◌, length, sym, ap, subst, arith}
 use Rattle.std.proofs.lemmas.Result.{on_ok_weaker}
 use Rattle.delf_disk.specs.declared.area.Area.{Area}
-use Rattle.delf_disk.specs.Areas.{Areas, area_of}
+use Rattle.delf_disk.specs.Areas.{area_of}
 use Rattle.delf_disk.specs.Moments.{Runs}
 use Rattle.delf_disk.proofs.Moments.{widened}
 use Rattle.gate_log.specs.Steps.{MayScrub, Scrubs}

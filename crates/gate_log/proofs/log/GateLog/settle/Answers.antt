@@ -1,5 +1,5 @@
 -- What zeros behind the closed gate make of a log.
-use Rattle.std.proofs.Common.{◌≡◌, ◌+◌, ◌-◌, ◌≤◌, ◌<◌, ℕ, List, length, refl, sym, ◌∙◌, ap, subst, arith}
+use Rattle.std.proofs.Common.{◌+◌, ◌-◌, length, refl, sym, subst, arith}
 use Rattle.std.proofs.lemmas.Result.{on_ok_weaker}
 use Rattle.delf_disk.specs.Areas.{Areas, area_of}
 use Rattle.delf_disk.specs.Moments.{Runs}

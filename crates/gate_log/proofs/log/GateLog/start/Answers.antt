@@ -1,14 +1,14 @@
 -- A blank area gets its first gate.
-use Rattle.std.proofs.Common.{◌≡◌, ◌≤◌, ◌<◌, ℕ, List, [], ◌∷◌, ◌++◌, length, refl, sym, ◌∙◌, ap, subst, arith}
+use Rattle.std.proofs.Common.{◌≡◌, ℕ, List, [], ◌∷◌, ◌++◌, length, refl, sym, ◌∙◌, ap, subst, arith}
 use Rattle.std.proofs.lemmas.List.{append-nil}
 use Rattle.std.proofs.lemmas.Result.{err_from_is_err_and}
 use Rattle.delf_disk.specs.Areas.{Areas, area_of, rest_of}
-use Rattle.delf_disk.specs.Images.{Same, Torn}
+use Rattle.delf_disk.specs.Images.{Same}
 use Rattle.delf_disk.proofs.Flags.{stays_plain}
 use Rattle.delf_disk.proofs.Moments.{started, kept, same_then}
 use Rattle.delf_disk.proofs.Writes.{torn_same}
 use Rattle.gate_log.specs.declared.scan.Place.{Place}
-use Rattle.gate_log.specs.Logs.{Log, Stands}
+use Rattle.gate_log.specs.Logs.{Log}
 use Rattle.gate_log.specs.Places.{sizes_at}
 use Rattle.gate_log.specs.Opening.{IsBroken}
 use Rattle.gate_log.proofs.log.GateLog.start.Goals as goal
