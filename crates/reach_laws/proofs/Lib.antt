@@ -1,2 +1,5 @@
+pub mod Kept
 pub mod Parts
+pub mod Quiet
 pub mod Reach
+pub mod Taken
