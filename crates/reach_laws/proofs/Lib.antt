@@ -1,3 +1,4 @@
+pub mod Gone
 pub mod Kept
 pub mod Parts
 pub mod Quiet

@@ -292,7 +292,7 @@ pub none_run : (s : State) (es : List Entry) (job : ℕ) → OwnsNone job s → 
 none_run s [] job none = none
 none_run s (e ∷ es) job none = none_run (step s e) es job (none_step s e job none)
 
-not_owned : (s : State) (job id : ℕ) → OwnsNone job s → is_owned_by s job id ≡ false
+pub not_owned : (s : State) (job id : ℕ) → OwnsNone job s → is_owned_by s job id ≡ false
 not_owned s job id none = by_owner (owner s id) refl
   where
   by_owner : (o : Option ℕ) → owner s id ≡ o → is_job job o ≡ false
