@@ -89,24 +89,25 @@ false_of false no_way = refl
 mine_named : (f : Part) (s : State) (moment : ℕ) (what : What) → is_allowed s moment what ≡ true → Kept f s → ((id : ℕ) → has f.ids id ≡ true → names s what id ≡ false) → takes_for f.job what ≡ false
 mine_named f s moment what line kept unnamed = false_of (takes_for f.job what) (by_what what line unnamed)
   where
-  or_true : (a b : Bool) → (a ≡ true) ⊎ (b ≡ true) → (a || b) ≡ true
-  or_true true b h = refl
-  or_true false b h = elim h [ inl one ↦ absurd (false≢true one) | inr two ↦ two ]
-  by_what : (w : What) → is_allowed s moment w ≡ true → ((id : ℕ) → has f.ids id ≡ true → names s w id ≡ false) → takes_for f.job w ≡ true → ⊥
-  by_what (Cut which edge from to) line unnamed takes =
-      let same : which ≡ f.job = eqb-true which f.job takes in
-      let parts = and_parts (edge_stands s.graph (key_of edge from to)) (is_owned_by s which from || is_owned_by s which to) line in
-      elim (or_cases (is_owned_by s which from) (is_owned_by s which to) parts.1) [
-        inl own ↦
-          false≢true (sym (unnamed from (kept.mine from (owner_is s which from own ∙ ap (λ (n : ℕ). Some n) same))) ∙ or_true (eqb from from) (eqb to from) (inl (eq-eqb from from refl)))
-      | inr own ↦
-          false≢true (sym (unnamed to (kept.mine to (owner_is s which to own ∙ ap (λ (n : ℕ). Some n) same))) ∙ or_true (eqb from to) (eqb to to) (inr (eq-eqb to to refl)))
-      ]
-  by_what (Erase which gone) line unnamed takes =
-      let same : which ≡ f.job = eqb-true which f.job takes in
-      let own = (and_parts (is_owned_by s which gone) _ line).0 in
-      false≢true (sym (unnamed gone (kept.mine gone (owner_is s which gone own ∙ ap (λ (n : ℕ). Some n) same))) ∙ eq-eqb gone gone refl)
-  by_what what line unnamed takes = false≢true takes
+    or_true : (a b : Bool) → (a ≡ true) ⊎ (b ≡ true) → (a || b) ≡ true
+    or_true true b h = refl
+    or_true false b h = elim h [ inl one ↦ absurd (false≢true one) | inr two ↦ two ]
+
+    by_what : (w : What) → is_allowed s moment w ≡ true → ((id : ℕ) → has f.ids id ≡ true → names s w id ≡ false) → takes_for f.job w ≡ true → ⊥
+    by_what (Cut which edge from to) line unnamed takes =
+        let same : which ≡ f.job = eqb-true which f.job takes in
+        let parts = and_parts (edge_stands s.graph (key_of edge from to)) (is_owned_by s which from || is_owned_by s which to) line in
+        elim (or_cases (is_owned_by s which from) (is_owned_by s which to) parts.1) [
+          | inl own ↦
+              false≢true (sym (unnamed from (kept.mine from (owner_is s which from own ∙ ap (λ (n : ℕ). Some n) same))) ∙ or_true (eqb from from) (eqb to from) (inl (eq-eqb from from refl)))
+          | inr own ↦
+              false≢true (sym (unnamed to (kept.mine to (owner_is s which to own ∙ ap (λ (n : ℕ). Some n) same))) ∙ or_true (eqb from to) (eqb to to) (inr (eq-eqb to to refl)))
+        ]
+    by_what (Erase which gone) line unnamed takes =
+        let same : which ≡ f.job = eqb-true which f.job takes in
+        let own = (and_parts (is_owned_by s which gone) _ line).0 in
+        false≢true (sym (unnamed gone (kept.mine gone (owner_is s which gone own ∙ ap (λ (n : ℕ). Some n) same))) ∙ eq-eqb gone gone refl)
+    by_what what line unnamed takes = false≢true takes
 
 pub had_same : (a b c d : Bool) → a ≡ b → c ≡ d → (a || c) ≡ (b || d)
 had_same a b c d one two = ap (λ (x : Bool). x || c) one ∙ ap (λ (x : Bool). b || x) two
@@ -130,8 +131,8 @@ quiet_had : (f : Part) (s t : State) → Kept f s → IsQuiet f s t → (id : �
 quiet_had f s t kept quiet id =
     had_same _ _ _ _
     (same_bool (is_owned_by t f.job id) (is_owned_by s f.job id)
-      (λ own. is_mine f.job (owner s id) (quiet.no_new id (job_is f.job (owner t id) own)))
-      (λ own. ap (is_job f.job) (quiet.owners id (kept.mine id (job_is f.job (owner s id) own))) ∙ own))
+    (λ own. is_mine f.job (owner s id) (quiet.no_new id (job_is f.job (owner t id) own)))
+    (λ own. ap (is_job f.job) (quiet.owners id (kept.mine id (job_is f.job (owner s id) own))) ∙ own))
     (quiet.erased id)
 
 quiet_kept : (f : Part) (s t : State) → Kept f s → IsQuiet f s t → EachItem (λ l. RowOf f l.item) t.items → Kept f t
@@ -141,34 +142,36 @@ quiet_kept f s t kept quiet rows = record {
   edges = λ key id held touched. quiet.edges key id held touched ∙ (kept.edges key id held touched ∙ ap (λ (b : Bool). cond b None (edge_at f.graph key)) (sym (quiet.cut key)));
   erased = λ id gone. kept.erased id (sym (quiet.erased id) ∙ gone);
   cut = λ key gone.
-    let was = kept.cut key (sym (quiet.cut key) ∙ gone) in
-    (was.0, had_same _ _ _ _ (quiet_had f s t kept quiet key.from) (quiet_had f s t kept quiet key.to) ∙ was.1);
+      let was = kept.cut key (sym (quiet.cut key) ∙ gone) in
+      (was.0, had_same _ _ _ _ (quiet_had f s t kept quiet key.from) (quiet_had f s t kept quiet key.to) ∙ was.1);
   other = λ id k held own. kept.other id k held (sym (quiet.owners id held) ∙ own);
   mine = λ id own. kept.mine id (quiet.no_new id own);
-  rows = rows }
+  rows = rows;
+}
 
 pub any_refs : (rules : RuleSet) (id : ℕ) (xs : List EdgeRow) → list_any (is_reference rules id) xs ≡ true → (row : EdgeRow) × (find (is_reference rules id) xs ≡ Some row) × (is_reference rules id row ≡ true)
 any_refs rules id [] some = absurd (false≢true some)
 any_refs rules id (x ∷ xs) some = by_hit (is_reference rules id x) refl some (any_refs rules id xs)
   where
-  by_hit : (b : Bool) → is_reference rules id x ≡ b → (b || list_any (is_reference rules id) xs) ≡ true →
-      (list_any (is_reference rules id) xs ≡ true → (row : EdgeRow) × (find (is_reference rules id) xs ≡ Some row) × (is_reference rules id row ≡ true)) →
-      (row : EdgeRow) × (cond b (Some x) (find (is_reference rules id) xs) ≡ Some row) × (is_reference rules id row ≡ true)
-  by_hit true is here IH = (x, refl, is)
-  by_hit false is here IH = IH here
+    by_hit : (b : Bool) → is_reference rules id x ≡ b → (b || list_any (is_reference rules id) xs) ≡ true →
+        (list_any (is_reference rules id) xs ≡ true → (row : EdgeRow) × (find (is_reference rules id) xs ≡ Some row) × (is_reference rules id row ≡ true)) →
+        (row : EdgeRow) × (cond b (Some x) (find (is_reference rules id) xs) ≡ Some row) × (is_reference rules id row ≡ true)
+    by_hit true is here IH = (x, refl, is)
+    by_hit false is here IH = IH here
 
 pub row_found : (p : EdgeRow → Bool) (xs : List EdgeRow) (row : EdgeRow) → find p xs ≡ Some row → is_some (find (has_key row.key) xs) ≡ true
 row_found p [] row found = absurd (cc found)
 row_found p (x ∷ xs) row found = by_hit (p x) found (row_found p xs row)
   where
-  some_more : (b : Bool) → is_some (find (has_key row.key) xs) ≡ true → is_some (cond b (Some x) (find (has_key row.key) xs)) ≡ true
-  some_more true some = refl
-  some_more false some = some
-  by_hit : (b : Bool) → cond b (Some x) (find p xs) ≡ Some row → (find p xs ≡ Some row → is_some (find (has_key row.key) xs) ≡ true) → is_some (find (has_key row.key) (x ∷ xs)) ≡ true
-  by_hit true here IH =
-      let same : x ≡ row = cc in
-      ap (λ (b : Bool). is_some (cond b (Some x) (find (has_key row.key) xs))) (ap (λ (r : EdgeRow). same_key r.key row.key) same ∙ same_key_refl row.key)
-  by_hit false here IH = some_more (same_key x.key row.key) (IH here)
+    some_more : (b : Bool) → is_some (find (has_key row.key) xs) ≡ true → is_some (cond b (Some x) (find (has_key row.key) xs)) ≡ true
+    some_more true some = refl
+    some_more false some = some
+
+    by_hit : (b : Bool) → cond b (Some x) (find p xs) ≡ Some row → (find p xs ≡ Some row → is_some (find (has_key row.key) xs) ≡ true) → is_some (find (has_key row.key) (x ∷ xs)) ≡ true
+    by_hit true here IH =
+        let same : x ≡ row = cc in
+        ap (λ (b : Bool). is_some (cond b (Some x) (find (has_key row.key) xs))) (ap (λ (r : EdgeRow). same_key r.key row.key) same ∙ same_key_refl row.key)
+    by_hit false here IH = some_more (same_key x.key row.key) (IH here)
 
 -- a reference is an edge that stands, and the other way round
 pub record Reference (rules : RuleSet) (g : Graph) (id : ℕ) : Type 0 where
@@ -187,18 +190,20 @@ refs_in : (rules : RuleSet) (id : ℕ) (key : EdgeKey) (xs : List EdgeRow) → i
 refs_in rules id key [] some counted to = absurd (false≢true some)
 refs_in rules id key (x ∷ xs) some counted to = by_hit (same_key x.key key) refl some (refs_in rules id key xs)
   where
-  or_left : (a b : Bool) → a ≡ true → (a || b) ≡ true
-  or_left true b is = refl
-  or_left false b is = absurd (false≢true is)
-  or_right : (a b : Bool) → b ≡ true → (a || b) ≡ true
-  or_right true b is = refl
-  or_right false b is = is
-  by_hit : (b : Bool) → same_key x.key key ≡ b → is_some (cond b (Some x) (find (has_key key) xs)) ≡ true →
-      (is_some (find (has_key key) xs) ≡ true → is_refcount rules key.edge ≡ true → key.to ≡ id → list_any (is_reference rules id) xs ≡ true) → list_any (is_reference rules id) (x ∷ xs) ≡ true
-  by_hit true is here IH =
-      or_left (is_reference rules id x) _
-      (subst (λ (k : EdgeKey). (is_refcount rules k.edge && eqb k.to id) ≡ true) (sym (same_key_is x.key key is)) (and_from (is_refcount rules key.edge) (eqb key.to id) counted (eq-eqb key.to id to)))
-  by_hit false is here IH = or_right (is_reference rules id x) _ (IH here counted to)
+    or_left : (a b : Bool) → a ≡ true → (a || b) ≡ true
+    or_left true b is = refl
+    or_left false b is = absurd (false≢true is)
+
+    or_right : (a b : Bool) → b ≡ true → (a || b) ≡ true
+    or_right true b is = refl
+    or_right false b is = is
+
+    by_hit : (b : Bool) → same_key x.key key ≡ b → is_some (cond b (Some x) (find (has_key key) xs)) ≡ true →
+        (is_some (find (has_key key) xs) ≡ true → is_refcount rules key.edge ≡ true → key.to ≡ id → list_any (is_reference rules id) xs ≡ true) → list_any (is_reference rules id) (x ∷ xs) ≡ true
+    by_hit true is here IH =
+        or_left (is_reference rules id x) _
+        (subst (λ (k : EdgeKey). (is_refcount rules k.edge && eqb k.to id) ≡ true) (sym (same_key_is x.key key is)) (and_from (is_refcount rules key.edge) (eqb key.to id) counted (eq-eqb key.to id to)))
+    by_hit false is here IH = or_right (is_reference rules id x) _ (IH here counted to)
 
 pub refs_to : (rules : RuleSet) (g : Graph) (id : ℕ) → Reference rules g id → has_refs rules g id ≡ true
 refs_to rules g id ref = refs_in rules id ref.key g.edges ref.stood ref.counted ref.to
@@ -206,16 +211,16 @@ refs_to rules g id ref = refs_in rules id ref.key g.edges ref.stood ref.counted 
 pub touches_to : (key : EdgeKey) (id : ℕ) → key.to ≡ id → touches id key ≡ true
 touches_to key id is = or_right (eqb key.from id) (eqb key.to id) (eq-eqb key.to id is)
   where
-  or_right : (a b : Bool) → b ≡ true → (a || b) ≡ true
-  or_right true b h = refl
-  or_right false b h = h
+    or_right : (a b : Bool) → b ≡ true → (a || b) ≡ true
+    or_right true b h = refl
+    or_right false b h = h
 
 pub touches_from : (key : EdgeKey) (id : ℕ) → key.from ≡ id → touches id key ≡ true
 touches_from key id is = or_left (eqb key.from id) (eqb key.to id) (eq-eqb key.from id is)
   where
-  or_left : (a b : Bool) → a ≡ true → (a || b) ≡ true
-  or_left true b h = refl
-  or_left false b h = absurd (false≢true h)
+    or_left : (a b : Bool) → a ≡ true → (a || b) ≡ true
+    or_left true b h = refl
+    or_left false b h = absurd (false≢true h)
 
 pub quiet_running : (f : Part) (s t : State) → Running f s → IsQuiet f s t → t.rules ≡ s.rules → EachItem (λ l. RowOf f l.item) t.items → Running f t
 quiet_running f s t running quiet same rows = record {
@@ -225,10 +230,14 @@ quiet_running f s t running quiet same rows = record {
   within = λ id held. running.within id (sym (quiet_had f s t running.kept quiet id) ∙ held);
   deep = λ key gone is. quiet_had f s t running.kept quiet key.to ∙ running.deep key (sym (quiet.cut key) ∙ gone) is;
   refs = λ id held some not_had.
-    let ref = refs_from f.rules s.graph id (running.refs id held some (sym (quiet_had f s t running.kept quiet id) ∙ not_had)) in
-    refs_to f.rules t.graph id (record {
-      key = ref.key; counted = ref.counted; to = ref.to;
-      stood = ap (λ (o : Option EdgeRow). is_some o) (quiet.edges ref.key id held (touches_to ref.key id ref.to)) ∙ ref.stood }) }
+      let ref = refs_from f.rules s.graph id (running.refs id held some (sym (quiet_had f s t running.kept quiet id) ∙ not_had)) in
+      refs_to f.rules t.graph id (record {
+        key = ref.key;
+        counted = ref.counted;
+        to = ref.to;
+        stood = ap (λ (o : Option EdgeRow). is_some o) (quiet.edges ref.key id held (touches_to ref.key id ref.to)) ∙ ref.stood;
+      });
+}
 
 -- an entry that names none of the ids is quiet
 pub quiet_step : (f : Part) (s : State) (e : Entry) → Good s → is_legal s e ≡ true → Running f s → ((id : ℕ) → has f.ids id ≡ true → names s e.what id ≡ false) → Running f (step s e)
@@ -241,14 +250,16 @@ quiet_step f s e good legal running unnamed =
       owners = λ id held. plain id ∙ owner_left s e.what id (unnamed id held);
       no_new = λ id own. owner_not_new s e.what f.job id running.kept.below quiet (sym (plain id) ∙ own);
       erased = λ id. erased_same s e.what f.job id quiet;
-      cut = λ key. cut_same s e.what f.job key quiet })
+      cut = λ key. cut_same s e.what f.job key quiet;
+    })
     refl
     (each_same s e.what f.job (RowOf f) quiet (λ it apart same. absurd (false≢true (sym apart ∙ same))) running.kept.rows)
   where
-  later : (n : ℕ) → n ≤ n + 1
-  later n = omega arith
-  quiet : takes_for f.job e.what ≡ false
-  quiet = mine_named f s e.moment e.what (allowed_of s e legal) running.kept unnamed
-  plain : (id : ℕ) → owner (step s e) id ≡ plain_owner s e.what id
-  plain id = owner_plain s e.moment e.what legal good.owned_stand good.ends id
+    later : (n : ℕ) → n ≤ n + 1
+    later n = omega arith
 
+    quiet : takes_for f.job e.what ≡ false
+    quiet = mine_named f s e.moment e.what (allowed_of s e legal) running.kept unnamed
+
+    plain : (id : ℕ) → owner (step s e) id ≡ plain_owner s e.what id
+    plain id = owner_plain s e.moment e.what legal good.owned_stand good.ends id

@@ -1,3 +1,4 @@
+pub mod Calm
 pub mod Gone
 pub mod Kept
 pub mod Parts

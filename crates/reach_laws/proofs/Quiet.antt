@@ -45,9 +45,9 @@ rewritten_miss : (target at size id : ℕ) (o : Option ObjectRow) → ((row : Ob
 rewritten_miss target at size id None found other = refl
 rewritten_miss target at size id (Some row) found other = ap (λ (r : ObjectRow). Some r) (miss (eqb row.id target) (record row { at = at; size = size }) row (apart (eqb row.id target) refl))
   where
-  apart : (b : Bool) → eqb row.id target ≡ b → b ≡ false
-  apart true is = absurd (false≢true (sym other ∙ eq-eqb target id (sym (eqb-true row.id target is) ∙ found row refl)))
-  apart false is = refl
+    apart : (b : Bool) → eqb row.id target ≡ b → b ≡ false
+    apart true is = absurd (false≢true (sym other ∙ eq-eqb target id (sym (eqb-true row.id target is) ∙ found row refl)))
+    apart false is = refl
 
 put_item_object : (s : State) (it : Item) (o : Option Cause) (id : ℕ) → item_names id it ≡ false → object_at (changed s.graph (put_unless o it)) id ≡ object_at s.graph id
 put_item_object s it (Some c) id unnamed = refl
@@ -78,9 +78,9 @@ object_left s moment (Purge job) id unnamed = refl
 other_key : (id : ℕ) (key other : EdgeKey) → touches id key ≡ true → touches id other ≡ false → same_key other key ≡ false
 other_key id key other touched untouched = by_same (same_key other key) refl
   where
-  by_same : (b : Bool) → same_key other key ≡ b → b ≡ false
-  by_same true is = absurd (false≢true (sym untouched ∙ (ap (λ (k : EdgeKey). touches id k) (same_key_is other key is) ∙ touched)))
-  by_same false is = refl
+    by_same : (b : Bool) → same_key other key ≡ b → b ≡ false
+    by_same true is = absurd (false≢true (sym untouched ∙ (ap (λ (k : EdgeKey). touches id k) (same_key_is other key is) ∙ touched)))
+    by_same false is = refl
 
 put_item_edge : (s : State) (it : Item) (o : Option Cause) (id : ℕ) (key : EdgeKey) → touches id key ≡ true → item_names id it ≡ false → edge_at (changed s.graph (put_unless o it)) key ≡ edge_at s.graph key
 put_item_edge s it (Some c) id key touched unnamed = refl
@@ -158,9 +158,9 @@ owner_not_new s (Cut which edge from to) job id below none own =
     elim (hit_number _ which job (owner s id) own) [ inl same ↦ absurd (false≢true (sym none ∙ eq-eqb which job same)) | inr old ↦ old ]
 owner_not_new s (Erase which gone) job id below none own = left (eqb gone id) own
   where
-  left : (b : Bool) → cond b None (owner s id) ≡ Some job → owner s id ≡ Some job
-  left true is = absurd (cc is)
-  left false is = is
+    left : (b : Bool) → cond b None (owner s id) ≡ Some job → owner s id ≡ Some job
+    left true is = absurd (cc is)
+    left false is = is
 owner_not_new s (Put which i) job id below none own = own
 owner_not_new s (Purge which) job id below none own = own
 
@@ -170,9 +170,9 @@ pub any_append : (q : Logged → Bool) (xs ys : List Logged) → list_any q (xs 
 any_append q [] ys = refl
 any_append q (x ∷ xs) ys = ap (λ (b : Bool). q x || b) (any_append q xs ys) ∙ assoc (q x) (list_any q xs) (list_any q ys)
   where
-  assoc : (a b c : Bool) → (a || (b || c)) ≡ ((a || b) || c)
-  assoc true b c = refl
-  assoc false b c = refl
+    assoc : (a b c : Bool) → (a || (b || c)) ≡ ((a || b) || c)
+    assoc true b c = refl
+    assoc false b c = refl
 
 any_handled : (q : Item → Bool) (xs : List Logged) (i : ℕ) (how : Handled) → list_any (λ l. q l.item) (handled_at xs i how) ≡ list_any (λ l. q l.item) xs
 any_handled q [] i how = refl
