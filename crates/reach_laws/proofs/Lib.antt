@@ -1,2 +1,7 @@
+pub mod Calm
+pub mod Gone
+pub mod Kept
 pub mod Parts
+pub mod Quiet
 pub mod Reach
+pub mod Taken

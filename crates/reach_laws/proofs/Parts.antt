@@ -16,14 +16,16 @@ pub one_more : (rules : RuleSet) (h : List Entry) (e : Entry) → Legal rules h 
 one_more rules h e legal next = record {
   state = after_push rules h e;
   legal = Legal_push rules h e legal next;
-  owners = λ id. owners_push rules h e id legal next }
+  owners = λ id. owners_push rules h e id legal next;
+}
 
 pub each_part : (rules : RuleSet) (h : List Entry) (p : ℕ) → Legal rules h → EachPart rules h p
 each_part rules h p legal = record {
   legal = legal_take (start rules) h p legal;
   counted = from_zero _ _ (len_run (start rules) (take p h));
   moment = (good_at rules h p legal).moment;
-  ends = (good_at rules h p legal).ends }
+  ends = (good_at rules h p legal).ends;
+}
   where
-  from_zero : (a b : ℕ) → a ≡ 0 + b → a ≡ b
-  from_zero a b is = omega arith
+    from_zero : (a b : ℕ) → a ≡ 0 + b → a ≡ b
+    from_zero a b is = omega arith
