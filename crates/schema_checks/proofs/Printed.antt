@@ -11,7 +11,7 @@ use Rattle.delf_model.specs.declared.schema.EdgeShape.{EdgeShape}
 use Rattle.delf_model.specs.RuleSet.{RuleSet, is_deep, is_refcount, is_deep_rule, is_refcount_rule, is_deep_shape, is_refcount_shape}
 use Rattle.delf_model.specs.Checked.{IsRoute, HasRoute, IsDistance, KeepsRules, is_start, is_start_type, source_of, target_of}
 use Rattle.delf_model.proofs.RouteLemmas.{edge_within}
-use Rattle.schema_checks.specs.Routes.{IsLeast, ComesFirst, IsPrintedRoute, BeginsShortest, IsFirstOf, IsFirstEdge}
+use Rattle.schema_checks.specs.Routes.{IsAtMost, ComesFirst, IsPrintedRoute, BeginsShortest, IsFirstOf, IsFirstEdge}
 
 rule_not_both : (rule : EdgeRule) → is_refcount_rule rule ≡ true → is_deep_rule rule ≡ true → ⊥
 rule_not_both Deep ref deep = false≢true ref
@@ -171,7 +171,7 @@ module _ (rules : RuleSet) where
   printed_further : (kind edge n : ℕ) (rest : List ℕ) → IsFirstOf rules kind edge n → is_deep rules edge ≡ true → IsPrintedRoute rules (source_of rules edge) rest → length rest ≡ n - 1 → IsPrintedRoute rules kind (edge ∷ rest)
   printed_further kind edge n rest first deep printed len =
       ((no_start kind n first.distance first.above, first.begins.0, inr (deep, printed.0)), λ other r. go other r) where
-        tail_first : (e : ℕ) (tail : List ℕ) → e ≡ edge → IsRoute rules kind (e ∷ tail) → length rest ≡ length tail → IsLeast rest tail
+        tail_first : (e : ℕ) (tail : List ℕ) → e ≡ edge → IsRoute rules kind (e ∷ tail) → length rest ≡ length tail → IsAtMost rest tail
         tail_first e tail same r equal =
             elim r.2 [
               | inl p ↦ absurd (shape_not_both (slice_get rules.edges e) p.0 (subst (λ x. is_deep rules x ≡ true) (sym same) deep))

@@ -4,14 +4,14 @@ use Rattle.delf_model.specs.RuleSet.{RuleSet, is_deep, is_refcount}
 use Rattle.delf_model.specs.Checked.{IsRoute, IsDistance, source_of, target_of}
 
 -- of two lists of numbers of one length, the first is the same or has the lesser number where they first differ
-abbrev pub IsLeast : List ℕ → List ℕ → Type 0
-IsLeast [] ys = Unit {0}
-IsLeast (x ∷ xs) [] = ⊥
-IsLeast (x ∷ xs) (y ∷ ys) = (x < y) ⊎ ((x ≡ y) × IsLeast xs ys)
+abbrev pub IsAtMost : List ℕ → List ℕ → Type 0
+IsAtMost [] ys = Unit {0}
+IsAtMost (x ∷ xs) [] = ⊥
+IsAtMost (x ∷ xs) (y ∷ ys) = (x < y) ⊎ ((x ≡ y) × IsAtMost xs ys)
 
 -- a shorter list, or one as long that is the same or less
 abbrev pub ComesFirst : List ℕ → List ℕ → Type 0
-ComesFirst route other = (length route < length other) ⊎ ((length route ≡ length other) × IsLeast route other)
+ComesFirst route other = (length route < length other) ⊎ ((length route ≡ length other) × IsAtMost route other)
 
 -- the printed route of a type: a shortest route, and of these the one whose list of edge numbers is least
 abbrev pub IsPrintedRoute : RuleSet → ℕ → List ℕ → Type 0
