@@ -72,11 +72,15 @@ abbrev pub item_words : Item → List ℕ → List ℕ
 item_words (item.Object job row) name = codes "object " ++ decimal row.id
 item_words (item.Edge job row from_birth to_birth) name = codes "edge " ++ edge_words name row.key.from row.key.to
 
+-- an object that belongs to a job
+abbrev pub condemned_words : ℕ → ℕ → List ℕ
+condemned_words id job = codes "condemned " ++ decimal id ++ codes " by " ++ decimal job
+
 -- why a logged row was not put back
 abbrev pub cause_words : Cause → List ℕ
 cause_words (Taken birth) = codes "taken birth " ++ decimal birth
 cause_words (EndMissing id) = codes "missing " ++ decimal id
-cause_words (EndCondemned id job) = codes "condemned " ++ decimal id ++ codes " by " ++ decimal job
+cause_words (EndCondemned id job) = condemned_words id job
 cause_words (KeyTaken birth) = codes "key taken birth " ++ decimal birth
 
 -- an annotation of an object type, without its number
@@ -107,14 +111,23 @@ refusal_number (refusal.Full used owed) = 15
 refusal_number refusal.OutOfMemory = 16
 refusal_number (refusal.DiskFault len) = 17
 
+abbrev pub wrong_end_words : ℕ → List ℕ → List ℕ
+wrong_end_words id name = codes "wrong end " ++ decimal id ++ codes " " ++ name
+
+abbrev pub name_taken_words : ℕ → ℕ → List ℕ
+name_taken_words id birth = codes "name taken " ++ decimal id ++ codes " birth " ++ decimal birth
+
+abbrev pub full_words : ℕ → ℕ → List ℕ
+full_words used owed = codes "full " ++ decimal used ++ codes " " ++ decimal owed
+
 -- what a refusal says; the name is that of the type that a wrong end has
 abbrev pub refusal_words : Refusal → List ℕ → List ℕ
 refusal_words (refusal.Down len) name = codes "down"
 refusal_words (refusal.TooLong len) name = codes "too long " ++ decimal len
 refusal_words (refusal.Absent id) name = codes "absent " ++ decimal id
-refusal_words (refusal.Condemned id job) name = codes "condemned " ++ decimal id ++ codes " by " ++ decimal job
-refusal_words (refusal.WrongEnd id kind) name = codes "wrong end " ++ decimal id ++ codes " " ++ name
-refusal_words (refusal.NameTaken id birth) name = codes "name taken " ++ decimal id ++ codes " birth " ++ decimal birth
+refusal_words (refusal.Condemned id job) name = condemned_words id job
+refusal_words (refusal.WrongEnd id kind) name = wrong_end_words id name
+refusal_words (refusal.NameTaken id birth) name = name_taken_words id birth
 refusal_words (refusal.EdgeTaken birth) name = codes "edge taken birth " ++ decimal birth
 refusal_words refusal.NoEdge name = codes "no edge"
 refusal_words (refusal.NotDirect rule) name = codes "not direct " ++ rule_word rule
@@ -123,7 +136,7 @@ refusal_words refusal.NoJob name = codes "no job"
 refusal_words (refusal.Pending owned) name = codes "pending " ++ decimal owned
 refusal_words (refusal.RestoredBefore position) name = codes "restored before " ++ decimal position
 refusal_words (refusal.WindowOver last) name = codes "window over " ++ decimal last
-refusal_words (refusal.Full used owed) name = codes "full " ++ decimal used ++ codes " " ++ decimal owed
+refusal_words (refusal.Full used owed) name = full_words used owed
 refusal_words refusal.OutOfMemory name = codes "out of memory"
 refusal_words (refusal.DiskFault len) name = codes "down at " ++ decimal len
 
