@@ -11,7 +11,7 @@ use Rattle.job_report.specs.declared.work.WorkEnd.{WorkEnd}
 use Rattle.job_report.specs.declared.work.WorkEnd.TheVariants.{All, Idle, Down, Damaged}
 use Rattle.serde_json.specs.Written.{compact_text}
 use Rattle.job_report.specs.Json.{report_data}
-use Rattle.job_report.specs.Words.{line_end, quoted, job_name, edge_words, object_words, state_words, item_words, cause_words, refusal_number, refusal_words, started_words, spaced}
+use Rattle.job_report.specs.Words.{line_end, quoted, job_name, edge_words, object_words, job_start_words, state_words, item_words, cause_words, refusal_number, refusal_words, started_words, spaced}
 
 -- accepted calls
 
@@ -72,8 +72,7 @@ absent_text len id = codes "at " ++ decimal len ++ codes " absent " ++ decimal i
 
 unfoldable pub job_text : JobLine → List ℕ
 job_text line =
-    codes "job " ++ job_name line.name ++ codes " start " ++ decimal line.job ++ codes " root " ++ decimal line.root ++
-    codes " " ++ state_words line.status ++ line_end
+    codes "job " ++ job_name line.name ++ job_start_words line.job line.root ++ state_words line.status ++ line_end
 
 -- the name is that of the edge type, where the row is an edge
 unfoldable pub listed_text : Listed → List ℕ → List ℕ
@@ -123,10 +122,13 @@ bad_vault_text at = codes "bad store vault at " ++ decimal at ++ line_end
 unfoldable pub lane_text : ℕ → List ℕ → List ℕ
 lane_text lane line = codes "lane " ++ decimal lane ++ codes " " ++ line
 
+abbrev pub place_words : Bool → List ℕ
+place_words down = if down then codes " down at " else codes " history "
+
 unfoldable pub par_text : ℕ → ℕ → ℕ → Bool → List ℕ
 par_text accepted refused len down =
     codes "par accepted " ++ decimal accepted ++ codes " refused " ++ decimal refused ++
-    (if down then codes " down at " else codes " history ") ++ decimal len ++ line_end
+    place_words down ++ decimal len ++ line_end
 
 -- documents
 
@@ -136,10 +138,13 @@ checked_text types edges = codes "checked " ++ decimal types ++ codes " types " 
 unfoldable pub route_text : List ℕ → List (List ℕ) → List ℕ
 route_text kind edges = codes "route " ++ kind ++ flat_map spaced edges ++ line_end
 
+abbrev pub load_words : ℕ → ℕ → ℕ → List ℕ
+load_words n objects edges =
+    codes "load " ++ decimal n ++ codes " objects " ++ decimal objects ++ codes " edges " ++ decimal edges
+
 unfoldable pub load_text : ℕ → ℕ → ℕ → ℕ → ℕ → ℕ → List ℕ
 load_text n objects edges history jobs restored =
-    codes "load " ++ decimal n ++ codes " objects " ++ decimal objects ++ codes " edges " ++ decimal edges ++
-    codes " history " ++ decimal history ++ codes " jobs " ++ decimal jobs ++ codes " restored " ++ decimal restored ++
+    load_words n objects edges ++ codes " history " ++ decimal history ++ codes " jobs " ++ decimal jobs ++ codes " restored " ++ decimal restored ++
     line_end
 
 unfoldable pub fault_text : ℕ → List ℕ → List ℕ

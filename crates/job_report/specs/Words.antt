@@ -49,6 +49,9 @@ object_words row kind payload owner =
     codes "object " ++ decimal row.id ++ codes " " ++ kind ++ codes " birth " ++ decimal row.birth ++ codes " " ++
     quoted payload ++ owner_words owner
 
+abbrev pub job_start_words : ℕ → ℕ → List ℕ
+job_start_words start root = codes " start " ++ decimal start ++ codes " root " ++ decimal root ++ codes " "
+
 -- the first word of a state
 abbrev pub state_word : Status → List ℕ
 state_word NoJob = codes "no"
@@ -58,13 +61,19 @@ state_word (Restoring left) = codes "restoring"
 state_word (Restored put listed) = codes "restored"
 state_word Purged = codes "purged"
 
+abbrev pub done_words : ℕ → ℕ → List ℕ
+done_words erased cut = codes "done erased " ++ decimal erased ++ codes " cut " ++ decimal cut
+
+abbrev pub restored_words : ℕ → ℕ → List ℕ
+restored_words put listed = codes "restored put " ++ decimal put ++ codes " listed " ++ decimal listed
+
 -- a state with its numbers
 abbrev pub state_words : Status → List ℕ
 state_words NoJob = codes "no job"
 state_words (Pending owned) = codes "pending " ++ decimal owned
-state_words (Done erased cut last) = codes "done erased " ++ decimal erased ++ codes " cut " ++ decimal cut
+state_words (Done erased cut last) = done_words erased cut
 state_words (Restoring left) = codes "restoring " ++ decimal left
-state_words (Restored put listed) = codes "restored put " ++ decimal put ++ codes " listed " ++ decimal listed
+state_words (Restored put listed) = restored_words put listed
 state_words Purged = codes "purged"
 
 -- a logged row: an object by its id, an edge by the name of its type and its ends

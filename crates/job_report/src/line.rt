@@ -56,9 +56,16 @@ impl Line {
 
     /// A number behind its label.
     pub fn labelled(self, label: &[u8], n: u64) -> Result<Line, AllocError>
-        ensures { IfOk result (λ line. line ≡ self ++ label.now ++ decimal n) }
+        ensures { IfOk result (λ line. line ≡ self ++ (label.now ++ decimal n)) }
     {
         self.text(label)?.number(n)
+    }
+
+    /// A number behind its label.
+    pub fn counted(self, label: &[u8], n: u32) -> Result<Line, AllocError>
+        ensures { IfOk result (λ line. line ≡ self ++ (label.now ++ decimal n)) }
+    {
+        self.labelled(label, u64::from(n))
     }
 
     /// A payload in double quotes.
@@ -94,8 +101,14 @@ impl Line {
     pub fn end(self) -> Result<Bytes, AllocError>
         ensures { IfOk result (λ bytes. bytes ≡ self ++ line_end) }
     {
-        let line = self.text(b"\n")?;
-        let Line { bytes } = line;
-        Ok(Bytes::from_vec(bytes))
+        Ok(self.text(b"\n")?.into_bytes())
+    }
+
+    /// What was written so far.
+    pub fn into_bytes(self) -> Bytes
+        ensures { result ≡ self }
+    {
+        let Line { bytes } = self;
+        Bytes::from_vec(bytes)
     }
 }

@@ -41,6 +41,9 @@ impl Line {
     pub fn condemned(self, id: ObjectId, job: Job) -> Result<Line, AllocError>
         ensures { IfOk result (λ line. line ≡ self ++ condemned_words id job) }
     {
-        self.text(b"condemned ")?.id(id)?.text(b" by ")?.count(job.0)
+        self.text(b"condemned ")?
+            .id(id)?
+            .text(b" by ")?
+            .count(job.0)
     }
 }

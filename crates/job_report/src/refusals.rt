@@ -78,19 +78,17 @@ impl Line {
             Refusal::Condemned { id, job } => self.condemned(id, job),
             Refusal::WrongEnd { id, .. } => self.wrong_end(id, name),
             Refusal::NameTaken { id, birth } => self.name_taken(id, birth),
-            Refusal::EdgeTaken { birth } => self.labelled(b"edge taken birth ", u64::from(birth)),
+            Refusal::EdgeTaken { birth } => self.counted(b"edge taken birth ", birth),
             Refusal::NoEdge => self.text(b"no edge"),
             Refusal::NotDirect { rule } => self.not_direct(rule),
-            Refusal::JobTaken { name } => self.labelled(b"job taken ", u64::from(name)),
+            Refusal::JobTaken { name } => self.counted(b"job taken ", name),
             Refusal::NoJob => self.text(b"no job"),
-            Refusal::Pending { owned } => self.labelled(b"pending ", u64::from(owned)),
-            Refusal::RestoredBefore { position } => {
-                self.labelled(b"restored before ", u64::from(position))
-            }
+            Refusal::Pending { owned } => self.counted(b"pending ", owned),
+            Refusal::RestoredBefore { position } => self.counted(b"restored before ", position),
             Refusal::WindowOver { last } => self.labelled(b"window over ", last),
             Refusal::Full { used, owed } => self.full(used, owed),
             Refusal::OutOfMemory => self.text(b"out of memory"),
-            Refusal::DiskFault { len } => self.labelled(b"down at ", u64::from(len)),
+            Refusal::DiskFault { len } => self.counted(b"down at ", len),
         }
     }
 
