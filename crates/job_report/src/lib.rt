@@ -25,3 +25,6 @@ pub use report::report_json;
 pub use rows::{absent_line, edge_line, found_line, graph_line, object_line};
 pub use store::{bad_journal_line, bad_vault_line, down_line, opened_line};
 pub use work::{WorkEnd, work_line};
+
+#[cfg(test)]
+mod tests;
