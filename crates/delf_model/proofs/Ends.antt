@@ -1,6 +1,6 @@
 -- Both ends of each edge stand, after every legal entry; and what the judgement of a put says.
-use Rattle.std.proofs.Common.{◌≡◌, ℕ, ◌+◌, ◌≤◌, ◌<◌, Bool, true, false, cond, not, ◌&&◌, ◌||◌, eqb, List, [], ◌∷◌, Option, Some, None, refl, sym, ap, ◌∙◌, subst, arith, inl, inr, ◌⊎◌}
-use Rattle.std.proofs.lemmas.Bool.{and_parts, and_from, eqb-true, eq-eqb, false≢true}
+use Rattle.std.proofs.Common.{◌≡◌, ℕ, Bool, true, false, cond, not, ◌||◌, eqb, List, [], ◌∷◌, Option, Some, None, refl, sym, ap, ◌∙◌, subst, arith, inl, inr, ◌⊎◌}
+use Rattle.std.proofs.lemmas.Bool.{and_parts, false≢true}
 use Rattle.std.specs.Prelude.{find, is_some, slice_get}
 use Rattle.std.proofs.lemmas.Bool.Decides.{nat_tests}
 use Rattle.std.specs.List.{list_any}
@@ -12,16 +12,14 @@ use Rattle.delf_model.specs.declared.rows.Item.{Item}
 use Rattle.delf_model.specs.declared.rows.Item.TheVariants as item
 use Rattle.delf_model.specs.declared.call.Cause.{Cause}
 use Rattle.delf_model.specs.declared.call.Cause.TheVariants as cause
-use Rattle.delf_model.specs.declared.entry.Entry.{Entry}
-use Rattle.delf_model.specs.declared.entry.Tag.{Tag}
 use Rattle.delf_model.specs.declared.entry.What.{What}
 use Rattle.delf_model.specs.declared.entry.What.TheVariants.{Create, Update, Link, Unlink, Delete, Restore, Expire, Cut, Erase, Put, Purge}
-use Rattle.delf_model.specs.Graph.{Graph, Change, PutsObject, TakesObject, RewritesObject, PutsEdge, TakesEdge, changed, has_id, has_key, same_key, object_at, edge_at, edge_stands, stands, is_born_at, touches, touches_row, is_touched, rewritten}
-use Rattle.delf_model.specs.State.{State, Logged, step, owner, graph_after, first_of_two, key_of, judged, put_change, put_unless, new_object, new_edge, end_cause, end_condemned, key_taken, is_owned_by}
+use Rattle.delf_model.specs.Graph.{Graph, PutsObject, TakesObject, RewritesObject, PutsEdge, TakesEdge, changed, has_key, same_key, object_at, edge_at, edge_stands, stands, is_born_at, touches, touches_row, is_touched, rewritten}
+use Rattle.delf_model.specs.State.{State, Logged, owner, graph_after, first_of_two, key_of, judged, put_change, put_unless, new_object, new_edge, end_cause, end_condemned, key_taken, is_owned_by}
 use Rattle.delf_model.specs.Store.{EndsStand}
-use Rattle.delf_model.specs.Legal.{is_legal, is_allowed, refusals}
+use Rattle.delf_model.specs.Legal.{is_allowed, refusals}
 use Rattle.delf_model.proofs.Graphs.{same_key_is, find-put_object, find-filter_object, find-rewritten, find-put_edge, find-filter_edge}
-use Rattle.delf_model.proofs.Lines.{none_of, allowed_of, there}
+use Rattle.delf_model.proofs.Lines.{none_of, there}
 
 -- what the judgement of a put says where it is put back
 
@@ -56,8 +54,12 @@ fits_of s job row from_birth to_birth none =
     let source_is = no_cause row.key.from (stands s.graph row.key.from from_birth) (owner s row.key.from) (first_left (end_cause s row.key.from from_birth) _ none) in
     let target_is = no_cause row.key.to (stands s.graph row.key.to to_birth) (owner s row.key.to) (first_left (end_cause s row.key.to to_birth) _ rest) in
     record {
-      source = source_is.0; source_free = source_is.1; target = target_is.0; target_free = target_is.1;
-      key_is_free = key_not_taken (edge_at s.graph row.key) (first_right (end_cause s row.key.to to_birth) (key_taken (edge_at s.graph row.key)) rest) }
+      source = source_is.0;
+      source_free = source_is.1;
+      target = target_is.0;
+      target_free = target_is.1;
+      key_is_free = key_not_taken (edge_at s.graph row.key) (first_right (end_cause s row.key.to to_birth) (key_taken (edge_at s.graph row.key)) rest);
+    }
 
 -- what stands with a birth stands
 born_there : (birth : ℕ) (o : Option ObjectRow) → is_born_at birth o ≡ true → is_some o ≡ true
@@ -137,20 +139,21 @@ untouched g id key none some = untouched_rows id g.edges key none some
 
 ends_kept : (g now : Graph) → ((id : ℕ) → is_some (object_at g id) ≡ true → is_some (object_at now id) ≡ true) →
     ((key : EdgeKey) → edge_stands now key ≡ true →
-      (edge_stands g key ≡ true) ⊎ ((is_some (object_at now key.from) ≡ true) × (is_some (object_at now key.to) ≡ true))) →
+    (edge_stands g key ≡ true) ⊎ ((is_some (object_at now key.from) ≡ true) × (is_some (object_at now key.to) ≡ true))) →
     EndsStand g → EndsStand now
 ends_kept g now kept came ends = record {
   source = λ key stood. elim (came key stood) [ inl old ↦ kept key.from (ends.source key old) | inr new ↦ new.0 ];
-  target = λ key stood. elim (came key stood) [ inl old ↦ kept key.to (ends.target key old) | inr new ↦ new.1 ] }
+  target = λ key stood. elim (came key stood) [ inl old ↦ kept key.to (ends.target key old) | inr new ↦ new.1 ];
+}
 
 ends_put_edge : (g : Graph) (row : EdgeRow) → is_some (object_at g row.key.from) ≡ true → is_some (object_at g row.key.to) ≡ true →
     EndsStand g → EndsStand (changed g (PutsEdge row))
 ends_put_edge g row source target ends =
     ends_kept g (changed g (PutsEdge row)) (λ id some. some)
     (λ key stood. elim (edge_came g row key stood) [
-        inl same ↦ inr (subst (λ (k : EdgeKey). is_some (object_at g k.from) ≡ true) same source, subst (λ (k : EdgeKey). is_some (object_at g k.to) ≡ true) same target)
+      | inl same ↦ inr (subst (λ (k : EdgeKey). is_some (object_at g k.from) ≡ true) same source, subst (λ (k : EdgeKey). is_some (object_at g k.to) ≡ true) same target)
       | inr old ↦ inl old
-      ])
+    ])
     ends
 
 ends_taken_edge : (g : Graph) (gone : EdgeKey) → EndsStand g → EndsStand (changed g (TakesEdge gone))
@@ -161,10 +164,11 @@ ends_erased g gone none ends = record {
   source = λ key stood.
       there_taken g gone key.from (eqb_sym key.from gone ∙ or_first (eqb key.from gone) (eqb key.to gone) (untouched g gone key none stood)) ∙ ends.source key stood;
   target = λ key stood.
-      there_taken g gone key.to (eqb_sym key.to gone ∙ or_second (eqb key.from gone) (eqb key.to gone) (untouched g gone key none stood)) ∙ ends.target key stood }
+      there_taken g gone key.to (eqb_sym key.to gone ∙ or_second (eqb key.from gone) (eqb key.to gone) (untouched g gone key none stood)) ∙ ends.target key stood;
+}
   where
-  eqb_sym : (a b : ℕ) → eqb b a ≡ eqb a b
-  eqb_sym a b = grind (arith, nat_tests)
+    eqb_sym : (a b : ℕ) → eqb b a ≡ eqb a b
+    eqb_sym a b = grind (arith, nat_tests)
 
 ends_put_item : (s : State) (it : Item) (o : Option Cause) → judged s it ≡ o → EndsStand s.graph → EndsStand (changed s.graph (put_unless o it))
 ends_put_item s it (Some c) is ends = ends
@@ -195,8 +199,8 @@ ends_step s moment (Cut job edge from to) line ends = ends_taken_edge s.graph (k
 ends_step s moment (Erase job gone) line ends =
     ends_erased s.graph gone (not_true (is_touched s.graph gone) (and_parts (is_owned_by s job gone) (not (is_touched s.graph gone)) line).1) ends
   where
-  not_true : (b : Bool) → not b ≡ true → b ≡ false
-  not_true true is = absurd (false≢true is)
-  not_true false is = refl
+    not_true : (b : Bool) → not b ≡ true → b ≡ false
+    not_true true is = absurd (false≢true is)
+    not_true false is = refl
 ends_step s moment (Put job i) line ends = ends_put_change s (slice_get s.items i) ends
 ends_step s moment (Purge job) line ends = ends

@@ -1,7 +1,7 @@
 -- What leaves the graph, and by which entry.
-use Rattle.std.proofs.Common.{◌≡◌, ℕ, ◌+◌, ◌≤◌, ◌<◌, Bool, true, false, cond, not, ◌&&◌, ◌||◌, eqb, List, [], ◌∷◌, Option, Some, None, refl, sym, ap, ◌∙◌, subst, arith}
-use Rattle.std.proofs.lemmas.Bool.{and_parts, and_from, eqb-true, eq-eqb, ne_eqb, false≢true, cases_Bool, or_cases}
-use Rattle.std.specs.Prelude.{is_some, is_none, slice_get, find, option_and_then}
+use Rattle.std.proofs.Common.{◌≡◌, ℕ, Bool, true, false, cond, ◌||◌, eqb, Option, Some, None, refl, sym, ap, ◌∙◌, subst}
+use Rattle.std.proofs.lemmas.Bool.{and_parts, eqb-true, false≢true}
+use Rattle.std.specs.Prelude.{is_some, slice_get}
 use Rattle.std.specs.Option.{option_map}
 use Rattle.delf_model.specs.declared.rows.ObjectRow.{ObjectRow}
 use Rattle.delf_model.specs.declared.rows.EdgeKey.{EdgeKey}
@@ -10,15 +10,14 @@ use Rattle.delf_model.specs.declared.rows.Item.{Item}
 use Rattle.delf_model.specs.declared.rows.Item.TheVariants as item
 use Rattle.delf_model.specs.declared.call.Cause.{Cause}
 use Rattle.delf_model.specs.declared.entry.Entry.{Entry}
-use Rattle.delf_model.specs.declared.entry.Tag.{Tag}
 use Rattle.delf_model.specs.declared.entry.What.{What}
 use Rattle.delf_model.specs.declared.entry.What.TheVariants.{Create, Update, Link, Unlink, Delete, Restore, Expire, Cut, Erase, Put, Purge}
-use Rattle.delf_model.specs.Graph.{Graph, Change, Same, PutsObject, TakesObject, RewritesObject, PutsEdge, TakesEdge, changed, has_id, object_at, edge_at, edge_stands, stands, is_born_at, same_key, rewritten}
-use Rattle.delf_model.specs.State.{State, Logged, step, owner, is_owned_by, is_job, judged, taken, put_change, put_unless, put_of_item, first_of_two, key_of, new_object, new_edge, end_cause, key_taken, start_of}
-use Rattle.delf_model.specs.Legal.{is_legal, is_allowed, refused, refusals, name_taken, too_long, edge_taken}
-use Rattle.delf_model.specs.Sound.{ObjectsLeave, EdgesLeave, TakesEdgeAway, ByUnlink, ByCut}
+use Rattle.delf_model.specs.Graph.{Graph, PutsObject, TakesObject, RewritesObject, PutsEdge, TakesEdge, changed, object_at, edge_at, edge_stands, stands, is_born_at, same_key, rewritten}
+use Rattle.delf_model.specs.State.{State, Logged, step, owner, is_owned_by, is_job, judged, taken, put_change, put_unless, key_of, new_object, new_edge}
+use Rattle.delf_model.specs.Legal.{is_legal, is_allowed, refusals}
+use Rattle.delf_model.specs.Sound.{ObjectsLeave, EdgesLeave, ByUnlink, ByCut}
 use Rattle.delf_model.proofs.Graphs.{find-put_object, find-filter_object, find-rewritten, find-put_edge, find-filter_edge, same_key_is}
-use Rattle.delf_model.proofs.Lines.{NoneOf, none_of, allowed_of, name_free, key_free}
+use Rattle.delf_model.proofs.Lines.{none_of, allowed_of, name_free}
 
 -- a fact about an option that holds of both of its cases
 born_found : (birth : ℕ) (o p : Option ObjectRow) → o ≡ p → is_born_at birth o ≡ is_born_at birth p
@@ -40,9 +39,9 @@ stands_put g row id birth free stood =
 rewritten_birth : (target at size : ℕ) (row : ObjectRow) → (rewritten target at size row).birth ≡ row.birth
 rewritten_birth target at size row = by_hit (eqb row.id target)
   where
-  by_hit : (hit : Bool) → (cond hit (record row { at = at; size = size }) row).birth ≡ row.birth
-  by_hit true = refl
-  by_hit false = refl
+    by_hit : (hit : Bool) → (cond hit (record row { at = at; size = size }) row).birth ≡ row.birth
+    by_hit true = refl
+    by_hit false = refl
 
 born_rewritten : (birth target at size : ℕ) (o : Option ObjectRow) → is_born_at birth (option_map (rewritten target at size) o) ≡ is_born_at birth o
 born_rewritten birth target at size None = refl
@@ -126,7 +125,7 @@ hit_edge_gone false o stood gone = absurd (false≢true (sym gone ∙ stood))
 pub edge_stands_taken : (g : Graph) (gone key : EdgeKey) → edge_stands g key ≡ true → edge_stands (changed g (TakesEdge gone)) key ≡ false → gone ≡ key
 edge_stands_taken g gone key stood left =
     same_key_is gone key (hit_edge_gone (same_key gone key) (edge_at g key) stood
-      (sym (ap (λ (o : Option EdgeRow). is_some o) (find-filter_edge gone g.edges key)) ∙ left))
+    (sym (ap (λ (o : Option EdgeRow). is_some o) (find-filter_edge gone g.edges key)) ∙ left))
 
 pub edge_stands_put_item : (s : State) (it : Item) (cause : Option Cause) (key : EdgeKey) → edge_stands s.graph key ≡ true →
     edge_stands (changed s.graph (put_unless cause it)) key ≡ true
@@ -152,7 +151,7 @@ edges_by s moment (Cut job edge from to) line key stood left =
     let same : key_of edge from to ≡ key = edge_stands_taken s.graph (key_of edge from to) key stood left in
     ByCut job (ap (λ (k : EdgeKey). Cut job k.edge k.from k.to) same)
     (subst (λ (k : EdgeKey). (is_owned_by s job k.from || is_owned_by s job k.to) ≡ true) same
-      (and_parts (edge_stands s.graph (key_of edge from to)) (is_owned_by s job from || is_owned_by s job to) line).1)
+    (and_parts (edge_stands s.graph (key_of edge from to)) (is_owned_by s job from || is_owned_by s job to) line).1)
 edges_by s moment (Erase job gone) line key stood left = contradicts _ stood left
 edges_by s moment (Put job i) line key stood left = contradicts _ (edge_stands_put_change s (slice_get s.items i) key stood) left
 edges_by s moment (Purge job) line key stood left = contradicts _ stood left

@@ -1,16 +1,16 @@
 -- What a legal entry says of the state before it.
-use Rattle.std.proofs.Common.{◌≡◌, ℕ, ◌+◌, ◌≤◌, ◌<◌, Bool, true, false, cond, not, ◌&&◌, ◌||◌, eqb, ltb, leb, List, [], ◌∷◌, Option, Some, None, refl, sym, ap, ◌∙◌, subst, arith}
-use Rattle.std.proofs.lemmas.Bool.{and_parts, and_from, eqb-true, eq-eqb, false≢true, ltb-false, leb-true}
-use Rattle.std.specs.Prelude.{is_some, is_none, slice_get}
+use Rattle.std.proofs.Common.{◌≡◌, ℕ, ◌≤◌, Bool, true, false, cond, ◌&&◌, eqb, ltb, leb, List, [], ◌∷◌, Option, Some, None, refl}
+use Rattle.std.proofs.lemmas.Bool.{and_parts, eqb-true, false≢true, ltb-false, leb-true}
+use Rattle.std.specs.Prelude.{is_some, is_none}
 use Rattle.delf_model.specs.declared.rows.ObjectRow.{ObjectRow}
 use Rattle.delf_model.specs.declared.rows.EdgeKey.{EdgeKey}
 use Rattle.delf_model.specs.declared.rows.EdgeRow.{EdgeRow}
 use Rattle.delf_model.specs.declared.call.Refusal.{Refusal}
-use Rattle.delf_model.specs.declared.call.Refusal.TheVariants.{TooLong, Absent, Condemned, WrongEnd, NameTaken, EdgeTaken, NoEdge, NotDirect, JobTaken, NoJob, Pending, RestoredBefore, WindowOver, Full}
+use Rattle.delf_model.specs.declared.call.Refusal.TheVariants.{TooLong, Absent, NoEdge, Pending, Full}
 use Rattle.delf_model.specs.declared.entry.Entry.{Entry}
 use Rattle.delf_model.specs.declared.entry.What.{What}
-use Rattle.delf_model.specs.Graph.{Graph, object_at, edge_at, edge_stands}
-use Rattle.delf_model.specs.State.{State, step, owner, owned, first_of_two, tag_of}
+use Rattle.delf_model.specs.Graph.{object_at, edge_at, edge_stands}
+use Rattle.delf_model.specs.State.{State, step, owner, owned, tag_of}
 use Rattle.delf_model.specs.Legal.{is_legal, is_allowed, is_tag, is_numbered, greatest_moment, payload_limit, room_limit, room, first_refusal, too_long, absent, condemned, condemned_by, name_taken, name_taken_by, edge_taken, edge_taken_by, no_edge, full, pending, used, owed}
 
 -- each of these is none
@@ -37,12 +37,12 @@ numbered_of s e legal = (and_parts (leb s.moment e.moment && leb e.moment greate
 pub tagged_of : (s : State) (e : Entry) → is_legal s e ≡ true → is_tag s (tag_of e.what) ≡ true
 tagged_of s e legal =
     (and_parts (leb s.moment e.moment && leb e.moment greatest_moment) (is_tag s (tag_of e.what))
-      (and_parts (leb s.moment e.moment && leb e.moment greatest_moment && is_tag s (tag_of e.what)) (is_numbered s.rules e.what) (front_of s e legal)).0).1
+    (and_parts (leb s.moment e.moment && leb e.moment greatest_moment && is_tag s (tag_of e.what)) (is_numbered s.rules e.what) (front_of s e legal)).0).1
 
 moments_of : (s : State) (e : Entry) → is_legal s e ≡ true → (leb s.moment e.moment && leb e.moment greatest_moment) ≡ true
 moments_of s e legal =
     (and_parts (leb s.moment e.moment && leb e.moment greatest_moment) (is_tag s (tag_of e.what))
-      (and_parts (leb s.moment e.moment && leb e.moment greatest_moment && is_tag s (tag_of e.what)) (is_numbered s.rules e.what) (front_of s e legal)).0).0
+    (and_parts (leb s.moment e.moment && leb e.moment greatest_moment && is_tag s (tag_of e.what)) (is_numbered s.rules e.what) (front_of s e legal)).0).0
 
 pub moment_not_before : (s : State) (e : Entry) → is_legal s e ≡ true → s.moment ≤ e.moment
 moment_not_before s e legal = leb-true s.moment e.moment (and_parts (leb s.moment e.moment) (leb e.moment greatest_moment) (moments_of s e legal)).0

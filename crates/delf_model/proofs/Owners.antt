@@ -1,19 +1,16 @@
 -- The owner map after one entry.
-use Rattle.std.proofs.Common.{◌≡◌, ℕ, ◌+◌, ◌≤◌, ◌<◌, Bool, true, false, cond, not, ◌&&◌, ◌||◌, eqb, ltb, List, [], ◌∷◌, ◌++◌, Option, Some, None, refl, sym, ap, ◌∙◌, subst, arith, inl, inr, ◌⊎◌}
-use Rattle.std.proofs.lemmas.Bool.Decides.{nat_tests}
-use Rattle.std.proofs.lemmas.Bool.{and_parts, and_from, eqb-true, eq-eqb, false≢true}
-use Rattle.std.proofs.lemmas.Grind.{common_steps}
-use Rattle.std.specs.Prelude.{find, filter, map, is_some, is_none}
+use Rattle.std.proofs.Common.{◌≡◌, ℕ, Bool, true, false, cond, eqb, List, [], ◌∷◌, Option, Some, None, refl, sym, ap, ◌∙◌, subst, inl, inr, ◌⊎◌}
+use Rattle.std.proofs.lemmas.Bool.{eqb-true, eq-eqb}
+use Rattle.std.specs.Prelude.{find, map, is_some}
 use Rattle.std.specs.Prelude.{option_and_then}
 use Rattle.delf_model.specs.declared.rows.ObjectRow.{ObjectRow}
 use Rattle.delf_model.specs.declared.rows.EdgeKey.{EdgeKey}
 use Rattle.delf_model.specs.declared.rows.EdgeRow.{EdgeRow}
 use Rattle.delf_model.specs.declared.entry.Entry.{Entry}
-use Rattle.delf_model.specs.declared.entry.What.{What}
 use Rattle.delf_model.specs.RuleSet.{RuleSet}
-use Rattle.delf_model.specs.Graph.{Graph, has_id, has_key, same_key, object_at, edge_at, edge_stands, stands, is_born_at}
+use Rattle.delf_model.specs.Graph.{Graph, has_id, has_key, same_key, object_at, stands, is_born_at}
 use Rattle.delf_model.proofs.Graphs.{same_key_is}
-use Rattle.delf_model.specs.State.{State, Owners, step, owner, owner_in, owns_of, owner_of_pair, graph_after, root_of_start, start_of, root_owner, first_of_two, next_owner, owned_row, owners_after, first_passed, passed_owner, condemns}
+use Rattle.delf_model.specs.State.{State, Owners, step, owner, owner_in, owns_of, owner_of_pair, graph_after, root_of_start, start_of, root_owner, first_of_two, next_owner, first_passed, passed_owner}
 
 -- the owner in a list that gives each row its owner
 pub owner_in-map : (f : ObjectRow → Option ℕ) (rows : List ObjectRow) (id : ℕ) →
@@ -21,11 +18,11 @@ pub owner_in-map : (f : ObjectRow → Option ℕ) (rows : List ObjectRow) (id : 
 owner_in-map f [] id = refl
 owner_in-map f (x ∷ xs) id = by_hit (eqb x.id id) (owner_in-map f xs id)
   where
-  by_hit : (hit : Bool) → owner_in (map (λ row. (row.id, f row)) xs) id ≡ option_and_then f (find (has_id id) xs) →
-      option_and_then owner_of_pair (cond hit (Some (x.id, f x)) (find (owns_of id) (map (λ row. (row.id, f row)) xs))) ≡
-      option_and_then f (cond hit (Some x) (find (has_id id) xs))
-  by_hit true IH = refl
-  by_hit false IH = IH
+    by_hit : (hit : Bool) → owner_in (map (λ row. (row.id, f row)) xs) id ≡ option_and_then f (find (has_id id) xs) →
+        option_and_then owner_of_pair (cond hit (Some (x.id, f x)) (find (owns_of id) (map (λ row. (row.id, f row)) xs))) ≡
+        option_and_then f (cond hit (Some x) (find (has_id id) xs))
+    by_hit true IH = refl
+    by_hit false IH = IH
 
 abbrev pub next_at : State → Entry → ObjectRow → Option ℕ
 next_at s e row =
@@ -66,7 +63,7 @@ abbrev pub passed_to : State → Entry → ℕ → Option ℕ
 passed_to s e id =
     first_of_two (owner s id)
     (first_of_two (root_owner (root_of_start (start_of s e.what)) s.len id)
-      (first_passed s.rules (graph_after s e.moment e.what) s.owners id s.graph.edges))
+    (first_passed s.rules (graph_after s e.moment e.what) s.owners id s.graph.edges))
 
 next_of : (s : State) (e : Entry) (id : ℕ) (row : ObjectRow) (stood : Bool) → row.id ≡ id → stands s.graph id row.birth ≡ stood →
     next_at s e row ≡ cond stood (passed_to s e id) None
@@ -93,7 +90,7 @@ pub owner_stays : (s : State) (e : Entry) (id job : ℕ) (row : ObjectRow) → o
 owner_stays s e id job row at stood own =
     owner_kept s e id row at stood ∙
     ap (λ (o : Option ℕ). first_of_two o (first_of_two (root_owner (root_of_start (start_of s e.what)) s.len id)
-      (first_passed s.rules (graph_after s e.moment e.what) s.owners id s.graph.edges))) own
+    (first_passed s.rules (graph_after s e.moment e.what) s.owners id s.graph.edges))) own
 
 -- what is owned stands in the graph
 abbrev pub OwnedStand : State → Type 0
@@ -112,9 +109,9 @@ pub owned_stood : (s : State) (e : Entry) (id job : ℕ) (row : ObjectRow) → o
     owner (step s e) id ≡ Some job → stands s.graph id row.birth ≡ true
 owned_stood s e id job row at own = by_stood (stands s.graph id row.birth) refl
   where
-  by_stood : (stood : Bool) → stands s.graph id row.birth ≡ stood → stood ≡ true
-  by_stood true is = refl
-  by_stood false is = absurd (let none : None ≡ Some job = sym (owner_new s e id row at is) ∙ own in cc none)
+    by_stood : (stood : Bool) → stands s.graph id row.birth ≡ stood → stood ≡ true
+    by_stood true is = refl
+    by_stood false is = absurd (let none : None ≡ Some job = sym (owner_new s e id row at is) ∙ own in cc none)
 
 passed_from : (rules : RuleSet) (now : Graph) (owners : Owners) (id job : ℕ) (row : EdgeRow) (b : Bool) →
     cond b (owner_in owners row.key.from) None ≡ Some job → owner_in owners row.key.from ≡ Some job
@@ -131,32 +128,33 @@ pub first_passed_from : (rules : RuleSet) (now : Graph) (owners : Owners) (id jo
 first_passed_from rules now owners id job [] own = absurd (cc own)
 first_passed_from rules now owners id job (row ∷ rows) own =
     elim (first_from (passed_owner rules now owners id row) (first_passed rules now owners id rows) job own) [
-      inl here ↦ (row.key.from, passed_from rules now owners id job row _ here)
-    | inr later ↦ first_passed_from rules now owners id job rows later
+      | inl here ↦ (row.key.from, passed_from rules now owners id job row _ here)
+      | inr later ↦ first_passed_from rules now owners id job rows later
     ]
 
 root_is : (o : Option ℕ) (position id job : ℕ) → root_owner o position id ≡ Some job → job ≡ position
 root_is None position id job own = absurd (cc own)
 root_is (Some root) position id job own = by_hit (eqb root id) own
   where
-  by_hit : (hit : Bool) → cond hit (Some position) None ≡ Some job → job ≡ position
-  by_hit true is = cc
-  by_hit false is = absurd (cc is)
+    by_hit : (hit : Bool) → cond hit (Some position) None ≡ Some job → job ≡ position
+    by_hit true is = cc
+    by_hit false is = absurd (cc is)
 
 -- an owner after an entry owned some object before it, or starts here
 pub owner_from : (s : State) (e : Entry) (id job : ℕ) → owner (step s e) id ≡ Some job → ((x : ℕ) × (owner s x ≡ Some job)) ⊎ (job ≡ s.len)
 owner_from s e id job own = by_row (object_at (graph_after s e.moment e.what) id) refl
   where
-  by_passed : passed_to s e id ≡ Some job → ((x : ℕ) × (owner s x ≡ Some job)) ⊎ (job ≡ s.len)
-  by_passed passed =
-      elim (first_from (owner s id) _ job passed) [
-        inl kept ↦ inl (id, kept)
-      | inr other ↦
-          elim (first_from (root_owner (root_of_start (start_of s e.what)) s.len id) _ job other) [
-            inl root ↦ inr (root_is (root_of_start (start_of s e.what)) s.len id job root)
-          | inr edge ↦ inl (first_passed_from s.rules (graph_after s e.moment e.what) s.owners id job s.graph.edges edge)
-          ]
-      ]
-  by_row : (o : Option ObjectRow) → object_at (graph_after s e.moment e.what) id ≡ o → ((x : ℕ) × (owner s x ≡ Some job)) ⊎ (job ≡ s.len)
-  by_row None at = absurd (let none : None ≡ Some job = sym (owner_gone s e id at) ∙ own in cc none)
-  by_row (Some row) at = by_passed (sym (owner_kept s e id row at (owned_stood s e id job row at own)) ∙ own)
+    by_passed : passed_to s e id ≡ Some job → ((x : ℕ) × (owner s x ≡ Some job)) ⊎ (job ≡ s.len)
+    by_passed passed =
+        elim (first_from (owner s id) _ job passed) [
+          | inl kept ↦ inl (id, kept)
+          | inr other ↦
+              elim (first_from (root_owner (root_of_start (start_of s e.what)) s.len id) _ job other) [
+                | inl root ↦ inr (root_is (root_of_start (start_of s e.what)) s.len id job root)
+                | inr edge ↦ inl (first_passed_from s.rules (graph_after s e.moment e.what) s.owners id job s.graph.edges edge)
+              ]
+        ]
+
+    by_row : (o : Option ObjectRow) → object_at (graph_after s e.moment e.what) id ≡ o → ((x : ℕ) × (owner s x ≡ Some job)) ⊎ (job ≡ s.len)
+    by_row None at = absurd (let none : None ≡ Some job = sym (owner_gone s e id at) ∙ own in cc none)
+    by_row (Some row) at = by_passed (sym (owner_kept s e id row at (owned_stood s e id job row at own)) ∙ own)

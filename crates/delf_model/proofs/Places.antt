@@ -1,9 +1,9 @@
 -- Where an object with a birth is: in the graph, or in one item that is not handled. It is never in two places, so no
 -- job logs it twice.
-use Rattle.std.proofs.Common.{◌≡◌, ℕ, zero, suc, ◌+◌, ◌≤◌, ◌<◌, Bool, true, false, cond, not, ◌&&◌, ◌||◌, eqb, List, [], ◌∷◌, ◌++◌, Option, Some, None, refl, sym, ap, ◌∙◌, subst, arith, inl, inr, ◌⊎◌}
-use Rattle.std.proofs.lemmas.Bool.{and_parts, and_from, eqb-true, eq-eqb, ne_eqb, false≢true}
+use Rattle.std.proofs.Common.{◌≡◌, ℕ, zero, suc, ◌+◌, ◌≤◌, ◌<◌, Bool, true, false, cond, ◌&&◌, eqb, List, [], ◌∷◌, ◌++◌, Option, Some, None, refl, sym, ap, ◌∙◌, subst, arith}
+use Rattle.std.proofs.lemmas.Bool.{and_parts, and_from, eqb-true, false≢true}
 use Rattle.std.proofs.lemmas.List.Sums.{sum_by-cons, sum_by-append}
-use Rattle.std.specs.Prelude.{find, filter, map, sum_by, count_by, is_some, is_none, slice_get}
+use Rattle.std.specs.Prelude.{filter, sum_by, count_by, is_some, is_none, slice_get}
 use Rattle.std.specs.Option.{option_map}
 use Rattle.delf_model.specs.declared.rows.ObjectRow.{ObjectRow}
 use Rattle.delf_model.specs.declared.rows.EdgeRow.{EdgeRow}
@@ -11,16 +11,14 @@ use Rattle.delf_model.specs.declared.rows.Item.{Item}
 use Rattle.delf_model.specs.declared.rows.Item.TheVariants as item
 use Rattle.delf_model.specs.declared.call.Cause.{Cause}
 use Rattle.delf_model.specs.declared.entry.Entry.{Entry}
-use Rattle.delf_model.specs.declared.entry.Tag.{Tag}
 use Rattle.delf_model.specs.declared.entry.What.{What}
 use Rattle.delf_model.specs.declared.entry.What.TheVariants.{Create, Update, Link, Unlink, Delete, Restore, Expire, Cut, Erase, Put, Purge}
-use Rattle.delf_model.specs.Graph.{Graph, has_id, object_at, edge_at, stands, put_object, rewritten, is_other_object, changed}
-use Rattle.delf_model.specs.State.{State, Logged, Handled, JobRow, step, owner, job_row, starts_at, is_restored, is_restored_row, is_open, job_of, jobs_after, items_after, key_of, edge_item, object_item, handled_at, outcome, unhandled, judged, put_change, put_unless, is_owned_by, birth_of, restored_at, new_object}
-use Rattle.delf_model.specs.Legal.{is_legal, is_allowed, may_put, ends_handled, is_end_item, is_named_so}
+use Rattle.delf_model.specs.Graph.{Graph, has_id, object_at, edge_at, rewritten, is_other_object, changed}
+use Rattle.delf_model.specs.State.{State, Logged, Handled, JobRow, step, job_row, is_restored, is_restored_row, is_open, job_of, jobs_after, items_after, key_of, edge_item, object_item, handled_at, outcome, unhandled, judged, put_change, put_unless, is_owned_by, birth_of, restored_at, new_object}
+use Rattle.delf_model.specs.Legal.{is_legal, is_allowed, may_put, ends_handled, is_end_item}
 use Rattle.delf_model.specs.Sound.{is_erasure_of, erasures}
 use Rattle.delf_model.proofs.Lines.{allowed_of}
 use Rattle.delf_model.proofs.Leaves.{owner_is}
-use Rattle.delf_model.proofs.Owners.{OwnedStand, found_id}
 use Rattle.delf_model.proofs.Jobs.{Idle, restored_same, is_restore_of, job_row-restored}
 use Rattle.delf_model.proofs.Sums.{sum_put_object, sum_filter, sum_without, sum_no_more, sum_map, sum_handled, count_found}
 
@@ -60,9 +58,9 @@ no_more n = omega arith
 rewritten_birth : (target at size birth : ℕ) (row : ObjectRow) → one_if (has_birth birth (rewritten target at size row)) ≤ one_if (has_birth birth row)
 rewritten_birth target at size birth row = by_hit (eqb row.id target)
   where
-  by_hit : (b : Bool) → one_if (has_birth birth (cond b (record row { at = at; size = size }) row)) ≤ one_if (has_birth birth row)
-  by_hit true = omega arith
-  by_hit false = omega arith
+    by_hit : (b : Bool) → one_if (has_birth birth (cond b (record row { at = at; size = size }) row)) ≤ one_if (has_birth birth row)
+    by_hit true = omega arith
+    by_hit false = omega arith
 
 edge_waits : (g : Graph) (job birth : ℕ) (o : Option EdgeRow) → count_by (waits birth) (edge_item g job o) ≤ 0
 edge_waits g job birth None = omega arith
@@ -75,8 +73,11 @@ erase_places s job gone birth n None at =
     even _ _ _ _ n (sum_filter (λ r. one_if (has_birth birth r)) (is_other_object gone) s.graph.objects) (omega (arith, sum_by-append (λ l. one_if (waits birth l)) s.items []))
 erase_places s job gone birth n (Some row) at =
     traded _ _ _ _ n (one_if (has_birth birth row)) (sum_without (λ r. one_if (has_birth birth r)) (has_id gone) row s.graph.objects at)
-    (omega (arith, sum_by-append (λ l. one_if (waits birth l)) s.items (unhandled (item.Object job row) ∷ []),
-      sum_by-cons (λ l. one_if (waits birth l)) (unhandled (item.Object job row)) []))
+    (omega (
+      arith,
+      sum_by-append (λ l. one_if (waits birth l)) s.items (unhandled (item.Object job row) ∷ []),
+      sum_by-cons (λ l. one_if (waits birth l)) (unhandled (item.Object job row)) [],
+    ))
 
 -- what a put adds to the graph it takes from the items
 put_places_item : (s : State) (birth : ℕ) (it : Item) (o : Option Cause) →
@@ -105,22 +106,29 @@ pub may_put_of : (s : State) (job i : ℕ) (o : Option Logged) → slice_get s.i
 may_put_of s job i None at may = absurd (false≢true may)
 may_put_of s job i (Some logged) at may =
     let parts = open_parts s job logged may in
-    record { logged = logged; at = at; of_job = parts.0; waiting = parts.1; restored = parts.2;
-      ends = (and_parts (eqb (job_of logged.item) job && is_open s.jobs logged) (ends_handled s.items logged.item) may).1 }
+    record {
+      logged = logged;
+      at = at;
+      of_job = parts.0;
+      waiting = parts.1;
+      restored = parts.2;
+      ends = (and_parts (eqb (job_of logged.item) job && is_open s.jobs logged) (ends_handled s.items logged.item) may).1;
+    }
 
 put_places : (s : State) (moment job i birth n : ℕ) → MayPut s job i → places (step s (record { moment = moment; what = Put job i })) birth ≤ places s birth + n
 put_places s moment job i birth n may =
     returned _ _ _ _ n (one_if (is_object_born birth may.logged.item))
     (subst (λ (o : Option Logged). count_by (has_birth birth) (changed s.graph (put_change s o)).objects ≤ one_if (is_object_born birth may.logged.item) + count_by (has_birth birth) s.graph.objects)
-      (sym may.at) (put_places_item s birth may.logged.item (judged s may.logged.item)))
+    (sym may.at) (put_places_item s birth may.logged.item (judged s may.logged.item)))
     (taken_off _ _ _ _ (sum_handled (λ l. one_if (waits birth l)) s.items i (outcome s (slice_get s.items i)) may.logged may.at)
-      (waits_open (is_none may.logged.handled) (is_object_born birth may.logged.item) may.waiting))
+    (waits_open (is_none may.logged.handled) (is_object_born birth may.logged.item) may.waiting))
   where
-  taken_off : (d' f d k : ℕ) → d' + f ≡ d + 0 → k ≤ f → d' + k ≤ d
-  taken_off d' f d k one two = omega arith
-  waits_open : (a b : Bool) → a ≡ true → one_if b ≤ one_if (a && b)
-  waits_open true b is = omega arith
-  waits_open false b is = absurd (false≢true is)
+    taken_off : (d' f d k : ℕ) → d' + f ≡ d + 0 → k ≤ f → d' + k ≤ d
+    taken_off d' f d k one two = omega arith
+
+    waits_open : (a b : Bool) → a ≡ true → one_if b ≤ one_if (a && b)
+    waits_open true b is = omega arith
+    waits_open false b is = absurd (false≢true is)
 
 pub places_step : (s : State) (moment : ℕ) (what : What) → is_allowed s moment what ≡ true → (birth : ℕ) →
     places (step s (record { moment = moment; what = what })) birth ≤ places s birth + one_if (eqb s.len birth)
@@ -128,8 +136,11 @@ places_step s moment (Create tag kind new size) line birth =
     apart_from _ _ _ _ (one_if (eqb s.len birth)) (sum_put_object (λ r. one_if (has_birth birth r)) (new_object s moment kind new size) s.graph.objects) (no_more _)
 places_step s moment (Update tag target size) line birth =
     even _ _ _ _ (one_if (eqb s.len birth))
-    (omega (arith, sum_map (λ r. one_if (has_birth birth r)) (rewritten target s.len size) s.graph.objects,
-      sum_no_more (λ r. one_if (has_birth birth (rewritten target s.len size r))) (λ r. one_if (has_birth birth r)) s.graph.objects (rewritten_birth target s.len size birth)))
+    (omega (
+      arith,
+      sum_map (λ r. one_if (has_birth birth r)) (rewritten target s.len size) s.graph.objects,
+      sum_no_more (λ r. one_if (has_birth birth (rewritten target s.len size r))) (λ r. one_if (has_birth birth r)) s.graph.objects (rewritten_birth target s.len size birth),
+    ))
     (no_more _)
 places_step s moment (Link tag edge from to size) line birth = omega arith
 places_step s moment (Unlink tag edge from to name) line birth = omega arith
@@ -138,8 +149,11 @@ places_step s moment (Restore tag job) line birth = omega arith
 places_step s moment (Expire root) line birth = omega arith
 places_step s moment (Cut job edge from to) line birth =
     even _ _ _ _ (one_if (eqb s.len birth)) (no_more _)
-    (omega (arith, sum_by-append (λ l. one_if (waits birth l)) s.items (edge_item s.graph job (edge_at s.graph (key_of edge from to))),
-      edge_waits s.graph job birth (edge_at s.graph (key_of edge from to))))
+    (omega (
+      arith,
+      sum_by-append (λ l. one_if (waits birth l)) s.items (edge_item s.graph job (edge_at s.graph (key_of edge from to))),
+      edge_waits s.graph job birth (edge_at s.graph (key_of edge from to)),
+    ))
 places_step s moment (Erase job gone) line birth = erase_places s job gone birth (one_if (eqb s.len birth)) (object_at s.graph gone) refl
 places_step s moment (Put job i) line birth = put_places s moment job i birth (one_if (eqb s.len birth)) (may_put_of s job i (slice_get s.items i) refl line)
 places_step s moment (Purge job) line birth = omega arith
@@ -154,19 +168,19 @@ pub fresh_step : (s : State) (e : Entry) → is_legal s e ≡ true → Fresh s �
 fresh_step s e legal fresh birth later =
     by_here (eqb s.len birth) refl (places_step s e.moment e.what (allowed_of s e legal) birth)
   where
-  by_here : (b : Bool) → eqb s.len birth ≡ b → places (step s e) birth ≤ places s birth + one_if b → places (step s e) birth ≤ 0
-  by_here true is less = absurd (let same : s.len ≡ birth = eqb-true s.len birth is in omega arith)
-  by_here false is less = let none : places s birth ≤ 0 = fresh birth (omega arith) in omega arith
+    by_here : (b : Bool) → eqb s.len birth ≡ b → places (step s e) birth ≤ places s birth + one_if b → places (step s e) birth ≤ 0
+    by_here true is less = absurd (let same : s.len ≡ birth = eqb-true s.len birth is in omega arith)
+    by_here false is less = let none : places s birth ≤ 0 = fresh birth (omega arith) in omega arith
 
 pub one_place_step : (s : State) (e : Entry) → is_legal s e ≡ true → Fresh s → OnePlace s → OnePlace (step s e)
 one_place_step s e legal fresh one birth =
     by_here (eqb s.len birth) refl (places_step s e.moment e.what (allowed_of s e legal) birth)
   where
-  by_here : (b : Bool) → eqb s.len birth ≡ b → places (step s e) birth ≤ places s birth + one_if b → places (step s e) birth ≤ 1
-  by_here true is less =
-      let same : s.len ≡ birth = eqb-true s.len birth is in
-      let none : places s birth ≤ 0 = fresh birth (omega arith) in omega arith
-  by_here false is less = let here : places s birth ≤ 1 = one birth in omega arith
+    by_here : (b : Bool) → eqb s.len birth ≡ b → places (step s e) birth ≤ places s birth + one_if b → places (step s e) birth ≤ 1
+    by_here true is less =
+        let same : s.len ≡ birth = eqb-true s.len birth is in
+        let none : places s birth ≤ 0 = fresh birth (omega arith) in omega arith
+    by_here false is less = let here : places s birth ≤ 1 = one birth in omega arith
 
 -- a fact of each item
 
@@ -202,29 +216,30 @@ HandledOf jobs logged = is_some logged.handled ≡ true → is_restored jobs (jo
 restore_stays : (s : State) (moment : ℕ) (what : What) (job : ℕ) → is_restored s.jobs job ≡ true → is_restored (jobs_after s moment what) job ≡ true
 restore_stays s moment what job was = by_kind (is_restore_of job what) refl
   where
-  by_kind : (b : Bool) → is_restore_of job what ≡ b → is_restored (jobs_after s moment what) job ≡ true
-  by_kind true is = again what is
-    where
-    stays_row : (which : ℕ) (o : Option JobRow) → is_restored_row o ≡ true → is_restored_row (option_map (restored_at which s.len) o) ≡ true
-    stays_row which None restored = absurd (false≢true restored)
-    stays_row which (Some row) restored = by_hit (eqb row.start which)
+    by_kind : (b : Bool) → is_restore_of job what ≡ b → is_restored (jobs_after s moment what) job ≡ true
+    by_kind true is = again what is
       where
-      by_hit : (b : Bool) → is_restored_row (Some (cond b (record row { restored = Some s.len }) row)) ≡ true
-      by_hit true = refl
-      by_hit false = restored
-    again : (w : What) → is_restore_of job w ≡ true → is_restored (jobs_after s moment w) job ≡ true
-    again (Create tag kind id size) r = absurd (false≢true r)
-    again (Update tag id size) r = absurd (false≢true r)
-    again (Link tag edge from to size) r = absurd (false≢true r)
-    again (Unlink tag edge from to name) r = absurd (false≢true r)
-    again (Delete tag id name) r = absurd (false≢true r)
-    again (Restore tag which) r = ap is_restored_row (job_row-restored s.jobs which s.len job) ∙ stays_row which (job_row s.jobs job) was
-    again (Expire id) r = absurd (false≢true r)
-    again (Cut which edge from to) r = absurd (false≢true r)
-    again (Erase which id) r = absurd (false≢true r)
-    again (Put which i) r = absurd (false≢true r)
-    again (Purge which) r = absurd (false≢true r)
-  by_kind false is = restored_same s moment what job is ∙ was
+        stays_row : (which : ℕ) (o : Option JobRow) → is_restored_row o ≡ true → is_restored_row (option_map (restored_at which s.len) o) ≡ true
+        stays_row which None restored = absurd (false≢true restored)
+        stays_row which (Some row) restored = by_hit (eqb row.start which)
+          where
+            by_hit : (b : Bool) → is_restored_row (Some (cond b (record row { restored = Some s.len }) row)) ≡ true
+            by_hit true = refl
+            by_hit false = restored
+
+        again : (w : What) → is_restore_of job w ≡ true → is_restored (jobs_after s moment w) job ≡ true
+        again (Create tag kind id size) r = absurd (false≢true r)
+        again (Update tag id size) r = absurd (false≢true r)
+        again (Link tag edge from to size) r = absurd (false≢true r)
+        again (Unlink tag edge from to name) r = absurd (false≢true r)
+        again (Delete tag id name) r = absurd (false≢true r)
+        again (Restore tag which) r = ap is_restored_row (job_row-restored s.jobs which s.len job) ∙ stays_row which (job_row s.jobs job) was
+        again (Expire id) r = absurd (false≢true r)
+        again (Cut which edge from to) r = absurd (false≢true r)
+        again (Erase which id) r = absurd (false≢true r)
+        again (Put which i) r = absurd (false≢true r)
+        again (Purge which) r = absurd (false≢true r)
+    by_kind false is = restored_same s moment what job is ∙ was
 
 abbrev pub HandledRestored : State → Type 0
 HandledRestored s = EachItem (HandledOf s.jobs) s.items
@@ -239,26 +254,27 @@ unhandled_object P job (Some row) new = (new (item.Object job row), tt)
 
 pub handled_step : (s : State) (moment : ℕ) (what : What) → is_allowed s moment what ≡ true → HandledRestored s → EachItem (HandledOf (jobs_after s moment what)) (items_after s what)
 handled_step s moment what line each = by_what what line (each_weaken (HandledOf s.jobs) (HandledOf (jobs_after s moment what)) s.items
-      (λ logged was handled. restore_stays s moment what (job_of logged.item) (was handled)) each)
+    (λ logged was handled. restore_stays s moment what (job_of logged.item) (was handled)) each)
   where
-  none_handled : (jobs : List JobRow) (it : Item) → HandledOf jobs (unhandled it)
-  none_handled jobs it handled = absurd (false≢true handled)
-  by_what : (w : What) → is_allowed s moment w ≡ true → EachItem (HandledOf (jobs_after s moment w)) s.items → EachItem (HandledOf (jobs_after s moment w)) (items_after s w)
-  by_what (Create tag kind id size) line old = old
-  by_what (Update tag id size) line old = old
-  by_what (Link tag edge from to size) line old = old
-  by_what (Unlink tag edge from to name) line old = old
-  by_what (Delete tag id name) line old = old
-  by_what (Restore tag which) line old = old
-  by_what (Expire id) line old = old
-  by_what (Cut which edge from to) line old =
-      each_append _ s.items _ old (unhandled_edge (HandledOf (jobs_after s moment (Cut which edge from to))) s.graph which (edge_at s.graph (key_of edge from to)) (none_handled _))
-  by_what (Erase which id) line old =
-      each_append _ s.items _ old (unhandled_object (HandledOf (jobs_after s moment (Erase which id))) which (object_at s.graph id) (none_handled _))
-  by_what (Put which i) line old =
-      let may = may_put_of s which i (slice_get s.items i) refl line in
-      each_handled (HandledOf s.jobs) s.items i (outcome s (slice_get s.items i)) may.logged may.at (λ handled. may.restored) old
-  by_what (Purge which) line old = old
+    none_handled : (jobs : List JobRow) (it : Item) → HandledOf jobs (unhandled it)
+    none_handled jobs it handled = absurd (false≢true handled)
+
+    by_what : (w : What) → is_allowed s moment w ≡ true → EachItem (HandledOf (jobs_after s moment w)) s.items → EachItem (HandledOf (jobs_after s moment w)) (items_after s w)
+    by_what (Create tag kind id size) line old = old
+    by_what (Update tag id size) line old = old
+    by_what (Link tag edge from to size) line old = old
+    by_what (Unlink tag edge from to name) line old = old
+    by_what (Delete tag id name) line old = old
+    by_what (Restore tag which) line old = old
+    by_what (Expire id) line old = old
+    by_what (Cut which edge from to) line old =
+        each_append _ s.items _ old (unhandled_edge (HandledOf (jobs_after s moment (Cut which edge from to))) s.graph which (edge_at s.graph (key_of edge from to)) (none_handled _))
+    by_what (Erase which id) line old =
+        each_append _ s.items _ old (unhandled_object (HandledOf (jobs_after s moment (Erase which id))) which (object_at s.graph id) (none_handled _))
+    by_what (Put which i) line old =
+        let may = may_put_of s which i (slice_get s.items i) refl line in
+        each_handled (HandledOf s.jobs) s.items i (outcome s (slice_get s.items i)) may.logged may.at (λ handled. may.restored) old
+    by_what (Purge which) line old = old
 
 -- no job logs an object with a birth twice
 
@@ -281,23 +297,24 @@ erased_waits s job id birth none each =
     sum_each (λ l. one_if (is_erasure_of job id birth l)) (λ l. one_if (waits birth l)) s.items
     (each_weaken (HandledOf s.jobs) (λ l. one_if (is_erasure_of job id birth l) ≤ one_if (waits birth l)) s.items one each)
   where
-  one : (l : Logged) → HandledOf s.jobs l → one_if (is_erasure_of job id birth l) ≤ one_if (waits birth l)
-  one l handled = by_erased (is_erasure_of job id birth l) refl
-    where
-    by_handled : (h : Option Handled) → (is_some h ≡ true → is_restored s.jobs (job_of l.item) ≡ true) → is_restored s.jobs (job_of l.item) ≡ false → is_none h ≡ true
-    by_handled None was not_now = refl
-    by_handled (Some how) was not_now = absurd (false≢true (sym not_now ∙ was refl))
-    by_erased : (b : Bool) → is_erasure_of job id birth l ≡ b → one_if b ≤ one_if (waits birth l)
-    by_erased false is = omega arith
-    by_erased true is =
-        let parts = erased_born job id birth l.item is in
-        at_least (waits birth l)
-        (and_from (is_none l.handled) (is_object_born birth l.item)
-          (by_handled l.handled handled (subst (λ (j : ℕ). is_restored s.jobs j ≡ false) (sym parts.0) none)) parts.1)
+    one : (l : Logged) → HandledOf s.jobs l → one_if (is_erasure_of job id birth l) ≤ one_if (waits birth l)
+    one l handled = by_erased (is_erasure_of job id birth l) refl
       where
-      at_least : (b : Bool) → b ≡ true → one_if true ≤ one_if b
-      at_least true is = omega arith
-      at_least false is = absurd (false≢true is)
+        by_handled : (h : Option Handled) → (is_some h ≡ true → is_restored s.jobs (job_of l.item) ≡ true) → is_restored s.jobs (job_of l.item) ≡ false → is_none h ≡ true
+        by_handled None was not_now = refl
+        by_handled (Some how) was not_now = absurd (false≢true (sym not_now ∙ was refl))
+
+        by_erased : (b : Bool) → is_erasure_of job id birth l ≡ b → one_if b ≤ one_if (waits birth l)
+        by_erased false is = omega arith
+        by_erased true is =
+            let parts = erased_born job id birth l.item is in
+            at_least (waits birth l)
+            (and_from (is_none l.handled) (is_object_born birth l.item)
+            (by_handled l.handled handled (subst (λ (j : ℕ). is_restored s.jobs j ≡ false) (sym parts.0) none)) parts.1)
+          where
+            at_least : (b : Bool) → b ≡ true → one_if true ≤ one_if b
+            at_least true is = omega arith
+            at_least false is = absurd (false≢true is)
 
 same_erasures : (s : State) (job id birth : ℕ) (more : List Logged) → count_by (is_erasure_of job id birth) more ≤ 0 → erasures s job id birth ≤ 1 →
     count_by (is_erasure_of job id birth) (s.items ++ more) ≤ 1
@@ -315,36 +332,42 @@ erase_once s which gone job id birth own idle handled one once None at =
     omega (arith, sum_by-append (λ l. one_if (is_erasure_of job id birth l)) s.items [], once job id birth)
 erase_once s which gone job id birth own idle handled one once (Some row) at = by_same (is_end_item job id birth (item.Object which row)) refl
   where
-  push : count_by (is_erasure_of job id birth) (s.items ++ unhandled (item.Object which row) ∷ []) ≡ erasures s job id birth + one_if (is_end_item job id birth (item.Object which row))
-  push =
-      omega (arith, sum_by-append (λ l. one_if (is_erasure_of job id birth l)) s.items (unhandled (item.Object which row) ∷ []),
-        sum_by-cons (λ l. one_if (is_erasure_of job id birth l)) (unhandled (item.Object which row)) [])
-  idle_now : is_restored s.jobs which ≡ false
-  idle_now = by_case (is_restored s.jobs which) refl
-    where
-    by_case : (b : Bool) → is_restored s.jobs which ≡ b → b ≡ false
-    by_case true is = absurd (idle which gone is (owner_is s which gone own))
-    by_case false is = refl
-  total : (a b c n : ℕ) → a ≡ b + n → b + n ≤ 1 → a ≤ 1
-  total a b c n one two = omega arith
-  by_same : (b : Bool) → is_end_item job id birth (item.Object which row) ≡ b → count_by (is_erasure_of job id birth) (s.items ++ unhandled (item.Object which row) ∷ []) ≤ 1
-  by_same false is =
-      let here : erasures s job id birth ≤ 1 = once job id birth in
-      total _ (erasures s job id birth) 0 (one_if (is_end_item job id birth (item.Object which row))) push (let none : one_if (is_end_item job id birth (item.Object which row)) ≡ 0 = ap one_if is in omega arith)
-  by_same true is =
-      let parts = erased_born job id birth (item.Object which row) is in
-      let none : is_restored s.jobs job ≡ false = subst (λ (j : ℕ). is_restored s.jobs j ≡ false) parts.0 idle_now in
-      let wait : erasures s job id birth ≤ count_by (waits birth) s.items = erased_waits s job id birth none handled in
-      let stood : 0 < count_by (has_birth birth) s.graph.objects = count_found (has_id gone) (has_birth birth) row s.graph.objects at parts.1 in
-      let places_one : places s birth ≤ 1 = one birth in
-      total _ (erasures s job id birth) 0 (one_if (is_end_item job id birth (item.Object which row))) push (let is_one : one_if (is_end_item job id birth (item.Object which row)) ≡ 1 = ap one_if is in omega arith)
+    push : count_by (is_erasure_of job id birth) (s.items ++ unhandled (item.Object which row) ∷ []) ≡ erasures s job id birth + one_if (is_end_item job id birth (item.Object which row))
+    push =
+        omega (
+          arith,
+          sum_by-append (λ l. one_if (is_erasure_of job id birth l)) s.items (unhandled (item.Object which row) ∷ []),
+          sum_by-cons (λ l. one_if (is_erasure_of job id birth l)) (unhandled (item.Object which row)) [],
+        )
 
-handled_erasures : (s : State) (i job id birth : ℕ) (how : Handled) (logged : Logged) → slice_get s.items i ≡ Some logged →
+    idle_now : is_restored s.jobs which ≡ false
+    idle_now = by_case (is_restored s.jobs which) refl
+      where
+        by_case : (b : Bool) → is_restored s.jobs which ≡ b → b ≡ false
+        by_case true is = absurd (idle which gone is (owner_is s which gone own))
+        by_case false is = refl
+
+    total : (a b c n : ℕ) → a ≡ b + n → b + n ≤ 1 → a ≤ 1
+    total a b c n one two = omega arith
+
+    by_same : (b : Bool) → is_end_item job id birth (item.Object which row) ≡ b → count_by (is_erasure_of job id birth) (s.items ++ unhandled (item.Object which row) ∷ []) ≤ 1
+    by_same false is =
+        let here : erasures s job id birth ≤ 1 = once job id birth in
+        total _ (erasures s job id birth) 0 (one_if (is_end_item job id birth (item.Object which row))) push (let none : one_if (is_end_item job id birth (item.Object which row)) ≡ 0 = ap one_if is in omega arith)
+    by_same true is =
+        let parts = erased_born job id birth (item.Object which row) is in
+        let none : is_restored s.jobs job ≡ false = subst (λ (j : ℕ). is_restored s.jobs j ≡ false) parts.0 idle_now in
+        let wait : erasures s job id birth ≤ count_by (waits birth) s.items = erased_waits s job id birth none handled in
+        let stood : 0 < count_by (has_birth birth) s.graph.objects = count_found (has_id gone) (has_birth birth) row s.graph.objects at parts.1 in
+        let places_one : places s birth ≤ 1 = one birth in
+        total _ (erasures s job id birth) 0 (one_if (is_end_item job id birth (item.Object which row))) push (let is_one : one_if (is_end_item job id birth (item.Object which row)) ≡ 1 = ap one_if is in omega arith)
+
+pub handled_erasures : (s : State) (i job id birth : ℕ) (how : Handled) (logged : Logged) → slice_get s.items i ≡ Some logged →
     count_by (is_erasure_of job id birth) (handled_at s.items i how) ≡ erasures s job id birth
 handled_erasures s i job id birth how logged at = cancel _ _ _ (sum_handled (λ l. one_if (is_erasure_of job id birth l)) s.items i how logged at)
   where
-  cancel : (a b c : ℕ) → a + c ≡ b + c → a ≡ b
-  cancel a b c is = omega arith
+    cancel : (a b c : ℕ) → a + c ≡ b + c → a ≡ b
+    cancel a b c is = omega arith
 
 pub once_step : (s : State) (moment : ℕ) (what : What) → is_allowed s moment what ≡ true → Idle s → HandledRestored s → OnePlace s → Once s →
     Once (step s (record { moment = moment; what = what }))
@@ -362,11 +385,11 @@ once_step s moment (Erase which gone) line idle handled one once job id birth =
 once_step s moment (Put which i) line idle handled one once job id birth =
     let may = may_put_of s which i (slice_get s.items i) refl line in
     let same : count_by (is_erasure_of job id birth) (handled_at s.items i (outcome s (slice_get s.items i))) ≡ erasures s job id birth =
-        handled_erasures s i job id birth (outcome s (slice_get s.items i)) may.logged may.at in
+    handled_erasures s i job id birth (outcome s (slice_get s.items i)) may.logged may.at in
     let here : erasures s job id birth ≤ 1 = once job id birth in below same here
   where
-  below : {a b : ℕ} → a ≡ b → b ≤ 1 → a ≤ 1
-  below one two = omega arith
+    below : {a b : ℕ} → a ≡ b → b ≤ 1 → a ≤ 1
+    below one two = omega arith
 once_step s moment (Purge which) line idle handled one once job id birth = once job id birth
 
 -- an erasure that is logged stays logged
@@ -387,6 +410,6 @@ erasures_stay s moment (Put which i) line job id birth =
     let may = may_put_of s which i (slice_get s.items i) refl line in
     same _ _ (handled_erasures s i job id birth (outcome s (slice_get s.items i)) may.logged may.at)
   where
-  same : (a b : ℕ) → a ≡ b → b ≤ a
-  same a b is = omega arith
+    same : (a b : ℕ) → a ≡ b → b ≤ a
+    same a b is = omega arith
 erasures_stay s moment (Purge which) line job id birth = no_more _

@@ -1,14 +1,11 @@
 -- The owner map as code changes it: only starts, cuts and erasures do.
-use Rattle.std.proofs.Common.{◌≡◌, ℕ, ◌+◌, ◌≤◌, ◌<◌, Bool, true, false, cond, not, ◌&&◌, ◌||◌, eqb, List, [], ◌∷◌, ◌++◌, Option, Some, None, refl, sym, ap, ◌∙◌, subst, arith, inl, inr, ◌⊎◌}
-use Rattle.std.proofs.lemmas.Bool.{and_parts, and_from, eqb-true, eq-eqb, ne_eqb, false≢true, or_cases}
-use Rattle.std.specs.Prelude.{find, filter, map, is_some, is_none, slice_get}
+use Rattle.std.proofs.Common.{◌≡◌, ℕ, Bool, true, false, cond, not, ◌&&◌, ◌||◌, eqb, List, [], ◌∷◌, Option, Some, None, refl, sym, ap, ◌∙◌, subst}
+use Rattle.std.proofs.lemmas.Bool.{and_parts, eqb-true, eq-eqb, false≢true}
+use Rattle.std.specs.Prelude.{find, is_some, is_none, slice_get}
 use Rattle.std.specs.List.{list_any}
 use Rattle.delf_model.specs.declared.rows.ObjectRow.{ObjectRow}
 use Rattle.delf_model.specs.declared.rows.EdgeKey.{EdgeKey}
 use Rattle.delf_model.specs.declared.rows.EdgeRow.{EdgeRow}
-use Rattle.delf_model.specs.declared.rows.Item.{Item}
-use Rattle.delf_model.specs.declared.rows.Item.TheVariants as item
-use Rattle.delf_model.specs.declared.call.Cause.{Cause}
 use Rattle.delf_model.specs.declared.ids.JobName.{JobName}
 use Rattle.delf_model.specs.declared.ids.JobName.TheVariants.{Named}
 use Rattle.delf_model.specs.declared.entry.Entry.{Entry}
@@ -16,14 +13,14 @@ use Rattle.delf_model.specs.declared.entry.Tag.{Tag}
 use Rattle.delf_model.specs.declared.entry.What.{What}
 use Rattle.delf_model.specs.declared.entry.What.TheVariants.{Create, Update, Link, Unlink, Delete, Restore, Expire, Cut, Erase, Put, Purge}
 use Rattle.delf_model.specs.RuleSet.{RuleSet}
-use Rattle.delf_model.specs.Graph.{Graph, Change, TakesEdge, TakesObject, PutsObject, changed, has_id, has_key, same_key, object_at, edge_at, edge_stands, stands, is_born_at}
-use Rattle.delf_model.specs.State.{State, Logged, Owners, step, run, after, owner, owner_in, is_owned_by, is_job, graph_after, root_of_start, start_of, root_owner, unlink_start, first_of_two, first_passed, passed_owner, condemns, key_of, judged, put_change, put_unless, new_object, new_edge}
+use Rattle.delf_model.specs.Graph.{Graph, TakesEdge, changed, has_key, same_key, object_at, edge_at, edge_stands, stands, is_born_at}
+use Rattle.delf_model.specs.State.{State, Logged, Owners, step, owner, owner_in, is_owned_by, is_job, graph_after, root_of_start, start_of, root_owner, unlink_start, first_of_two, first_passed, passed_owner, condemns, key_of, judged, put_change, new_edge}
 use Rattle.delf_model.specs.Store.{EndsStand}
-use Rattle.delf_model.specs.Legal.{is_legal, is_allowed, refused, refusals, is_due_row}
+use Rattle.delf_model.specs.Legal.{is_legal, refusals, is_due_row}
 use Rattle.delf_model.proofs.Graphs.{same_key_is, same_key_refl, same_key_sym, find-filter_edge, find-filter_object}
-use Rattle.delf_model.proofs.Lines.{none_of, allowed_of, there, free, name_free, edge_there}
-use Rattle.delf_model.proofs.Leaves.{objects_leave, edge_stands_put, edge_stands_put_item, owner_is, stands_put_change}
-use Rattle.delf_model.proofs.Owners.{OwnedStand, owner_kept, owner_new, owner_gone, passed_to, found_id, stands_of}
+use Rattle.delf_model.proofs.Lines.{none_of, allowed_of, there, free, edge_there}
+use Rattle.delf_model.proofs.Leaves.{objects_leave, edge_stands_put, edge_stands_put_item}
+use Rattle.delf_model.proofs.Owners.{OwnedStand, owner_kept, owner_new, owner_gone, passed_to, stands_of}
 
 -- the owner after an entry, by the kind of the entry
 abbrev pub plain_owner : State → What → ℕ → Option ℕ
@@ -51,9 +48,9 @@ all_stand_more g x rows more = tt
 stand_cons : (x : EdgeRow) (xs : List EdgeRow) (key : EdgeKey) → is_some (find (has_key key) xs) ≡ true → is_some (find (has_key key) (x ∷ xs)) ≡ true
 stand_cons x xs key stood = by_hit (same_key x.key key)
   where
-  by_hit : (hit : Bool) → is_some (cond hit (Some x) (find (has_key key) xs)) ≡ true
-  by_hit true = refl
-  by_hit false = stood
+    by_hit : (hit : Bool) → is_some (cond hit (Some x) (find (has_key key) xs)) ≡ true
+    by_hit true = refl
+    by_hit false = stood
 
 stand_head : (x : EdgeRow) (xs : List EdgeRow) → is_some (find (has_key x.key) (x ∷ xs)) ≡ true
 stand_head x xs = ap (λ (b : Bool). is_some (cond b (Some x) (find (has_key x.key) xs))) (same_key_refl x.key)
@@ -61,9 +58,10 @@ stand_head x xs = ap (λ (b : Bool). is_some (cond b (Some x) (find (has_key x.k
 all_find : (xs rows : List EdgeRow) → ((key : EdgeKey) → is_some (find (has_key key) rows) ≡ true → is_some (find (has_key key) xs) ≡ true) →
     (g : Graph) → ((key : EdgeKey) → is_some (find (has_key key) xs) ≡ true → edge_stands g key ≡ true) → AllStand g rows
 all_find xs [] within g stand = tt
-all_find xs (row ∷ rows) within g stand =
-    (stand row.key (within row.key (stand_head row rows)),
-     all_find xs rows (λ key stood. within key (stand_cons row rows key stood)) g stand)
+all_find xs (row ∷ rows) within g stand = (
+  stand row.key (within row.key (stand_head row rows)),
+  all_find xs rows (λ key stood. within key (stand_cons row rows key stood)) g stand,
+)
 
 -- the rows of a graph stand in each graph in which all its keys stand
 pub all_stand : (g now : Graph) → ((key : EdgeKey) → edge_stands g key ≡ true → edge_stands now key ≡ true) → AllStand now g.edges
@@ -127,7 +125,7 @@ one_passed rules now owners id gone (row ∷ rows) stand =
     ap (λ (o : Option ℕ). first_of_two o (first_passed rules now owners id rows))
     (passed_row rules now owners id gone row (same_key gone row.key) refl stand.0) ∙
     (ap (λ (o : Option ℕ). first_of_two (cond (same_key gone row.key) (passed_by rules now owners id gone) None) o)
-      (one_passed rules now owners id gone rows stand.1) ∙
+    (one_passed rules now owners id gone rows stand.1) ∙
     join_passed (same_key gone row.key) (list_any (has_gone gone) rows) (passed_by rules now owners id gone))
 
 -- after an edge was taken, each row stands or is that edge
@@ -145,11 +143,11 @@ gone_there : (gone : EdgeKey) (rows : List EdgeRow) → is_some (find (has_key g
 gone_there gone [] stood = absurd (false≢true stood)
 gone_there gone (row ∷ rows) stood = by_hit (same_key row.key gone) (same_key gone row.key) (same_key_sym row.key gone) stood (gone_there gone rows)
   where
-  by_hit : (hit other : Bool) → hit ≡ other → is_some (cond hit (Some row) (find (has_key gone) rows)) ≡ true →
-      (is_some (find (has_key gone) rows) ≡ true → list_any (has_gone gone) rows ≡ true) → (other || list_any (has_gone gone) rows) ≡ true
-  by_hit hit true is found IH = refl
-  by_hit true false is found IH = absurd (false≢true (sym is))
-  by_hit false false is found IH = IH found
+    by_hit : (hit other : Bool) → hit ≡ other → is_some (cond hit (Some row) (find (has_key gone) rows)) ≡ true →
+        (is_some (find (has_key gone) rows) ≡ true → list_any (has_gone gone) rows ≡ true) → (other || list_any (has_gone gone) rows) ≡ true
+    by_hit hit true is found IH = refl
+    by_hit true false is found IH = absurd (false≢true (sym is))
+    by_hit false false is found IH = IH found
 
 -- what a taken edge passes on
 pub taken_passes : (rules : RuleSet) (g : Graph) (owners : Owners) (id : ℕ) (gone : EdgeKey) → edge_stands g gone ≡ true →
@@ -179,30 +177,32 @@ some_row (Some row) some = (row, refl)
 pub afterwards : (s : State) (e : Entry) → is_legal s e ≡ true → OwnedStand s → (id : ℕ) → Afterwards s e id
 afterwards s e legal stand id = by_now (object_at (graph_after s e.moment e.what) id) refl
   where
-  -- an owner before is of an object that stood, and that left: it is erased here
-  by_owner : (o : Option ℕ) → owner s id ≡ o → owner (step s e) id ≡ None →
-      ((birth : ℕ) → stands s.graph id birth ≡ true → stands (step s e).graph id birth ≡ false) → Afterwards s e id
-  by_owner None own none left = Unowned own none
-  by_owner (Some job) own none left =
-      let found = some_row (object_at s.graph id) (stand id job own) in
-      let stood : stands s.graph id found.0.birth ≡ true = stands_of s.graph id found.0 found.1 in
-      let gone = objects_leave s e legal id found.0.birth stood (left found.0.birth stood) in
-      Erased gone.0 gone.2 none
-  by_stood : (row : ObjectRow) → object_at (graph_after s e.moment e.what) id ≡ Some row → (stood : Bool) →
-      stands s.graph id row.birth ≡ stood → Afterwards s e id
-  by_stood row at true is =
-      let found = born_some row.birth (object_at s.graph id) is in
-      Kept found.0 found.1 (owner_kept s e id row at is)
-  by_stood row at false is =
-      by_owner (owner s id) refl (owner_new s e id row at is) (λ birth stood. not_both birth (eqb row.birth birth) refl stood)
-    where
-    not_both : (birth : ℕ) (same : Bool) → eqb row.birth birth ≡ same → stands s.graph id birth ≡ true → stands (step s e).graph id birth ≡ false
-    not_both birth true same stood =
-        absurd (false≢true (sym is ∙ subst (λ (n : ℕ). stands s.graph id n ≡ true) (sym (eqb-true row.birth birth same)) stood))
-    not_both birth false same stood = ap (is_born_at birth) at ∙ same
-  by_now : (o : Option ObjectRow) → object_at (graph_after s e.moment e.what) id ≡ o → Afterwards s e id
-  by_now None at = by_owner (owner s id) refl (owner_gone s e id at) (λ birth stood. ap (is_born_at birth) at)
-  by_now (Some row) at = by_stood row at (stands s.graph id row.birth) refl
+    -- an owner before is of an object that stood, and that left: it is erased here
+    by_owner : (o : Option ℕ) → owner s id ≡ o → owner (step s e) id ≡ None →
+        ((birth : ℕ) → stands s.graph id birth ≡ true → stands (step s e).graph id birth ≡ false) → Afterwards s e id
+    by_owner None own none left = Unowned own none
+    by_owner (Some job) own none left =
+        let found = some_row (object_at s.graph id) (stand id job own) in
+        let stood : stands s.graph id found.0.birth ≡ true = stands_of s.graph id found.0 found.1 in
+        let gone = objects_leave s e legal id found.0.birth stood (left found.0.birth stood) in
+        Erased gone.0 gone.2 none
+
+    by_stood : (row : ObjectRow) → object_at (graph_after s e.moment e.what) id ≡ Some row → (stood : Bool) →
+        stands s.graph id row.birth ≡ stood → Afterwards s e id
+    by_stood row at true is =
+        let found = born_some row.birth (object_at s.graph id) is in
+        Kept found.0 found.1 (owner_kept s e id row at is)
+    by_stood row at false is =
+        by_owner (owner s id) refl (owner_new s e id row at is) (λ birth stood. not_both birth (eqb row.birth birth) refl stood)
+      where
+        not_both : (birth : ℕ) (same : Bool) → eqb row.birth birth ≡ same → stands s.graph id birth ≡ true → stands (step s e).graph id birth ≡ false
+        not_both birth true same stood =
+            absurd (false≢true (sym is ∙ subst (λ (n : ℕ). stands s.graph id n ≡ true) (sym (eqb-true row.birth birth same)) stood))
+        not_both birth false same stood = ap (is_born_at birth) at ∙ same
+
+    by_now : (o : Option ObjectRow) → object_at (graph_after s e.moment e.what) id ≡ o → Afterwards s e id
+    by_now None at = by_owner (owner s id) refl (owner_gone s e id at) (λ birth stood. ap (is_born_at birth) at)
+    by_now (Some row) at = by_stood row at (stands s.graph id row.birth) refl
 
 first_none : (o : Option ℕ) → first_of_two o None ≡ o
 first_none None = refl
@@ -214,12 +214,12 @@ quiet_plain : (s : State) (e : Entry) → is_legal s e ≡ true → OwnedStand s
     first_passed s.rules (graph_after s e.moment e.what) s.owners id s.graph.edges ≡ None → owner (step s e) id ≡ owner s id
 quiet_plain s e legal stand none other id passed = by_case (afterwards s e legal stand id)
   where
-  by_case : Afterwards s e id → owner (step s e) id ≡ owner s id
-  by_case (Kept row at is) =
-      is ∙ (ap (λ (o : Option ℕ). first_of_two (owner s id) (first_of_two (root_owner (root_of_start (start_of s e.what)) s.len id) o)) passed ∙
-      (ap (λ (o : Option _). first_of_two (owner s id) (first_of_two (root_owner (root_of_start o) s.len id) None)) none ∙ first_none (owner s id)))
-  by_case (Unowned own now) = now ∙ sym own
-  by_case (Erased job is now) = absurd (other job id is)
+    by_case : Afterwards s e id → owner (step s e) id ≡ owner s id
+    by_case (Kept row at is) =
+        is ∙ (ap (λ (o : Option ℕ). first_of_two (owner s id) (first_of_two (root_owner (root_of_start (start_of s e.what)) s.len id) o)) passed ∙
+        (ap (λ (o : Option _). first_of_two (owner s id) (first_of_two (root_owner (root_of_start o) s.len id) None)) none ∙ first_none (owner s id)))
+    by_case (Unowned own now) = now ∙ sym own
+    by_case (Erased job is now) = absurd (other job id is)
 
 -- where the objects are those before, an object keeps its owner, or gets what is passed to it
 same_objects : (s : State) (e : Entry) (id : ℕ) → object_at (graph_after s e.moment e.what) id ≡ object_at s.graph id → OwnedStand s →
@@ -227,9 +227,9 @@ same_objects : (s : State) (e : Entry) (id : ℕ) → object_at (graph_after s e
 same_objects s e id same stand None at =
     (λ some. absurd (false≢true some), λ none. (owner_gone s e id (same ∙ at), by_owner (owner s id) refl))
   where
-  by_owner : (o : Option ℕ) → owner s id ≡ o → owner s id ≡ None
-  by_owner None own = own
-  by_owner (Some job) own = absurd (false≢true (sym (ap (λ (r : Option ObjectRow). is_some r) at) ∙ stand id job own))
+    by_owner : (o : Option ℕ) → owner s id ≡ o → owner s id ≡ None
+    by_owner None own = own
+    by_owner (Some job) own = absurd (false≢true (sym (ap (λ (r : Option ObjectRow). is_some r) at) ∙ stand id job own))
 same_objects s e id same stand (Some row) at =
     (λ some. owner_kept s e id row (same ∙ at) (stands_of s.graph id row at), λ none. absurd (cc none))
 
@@ -246,21 +246,23 @@ started_plain : (s : State) (e : Entry) (root : ℕ) → OwnedStand s → root_o
     owner (step s e) id ≡ cond (eqb root id) (Some s.len) (owner s id)
 started_plain s e root stand is there_root free_root id same passed = by_row (object_at s.graph id) refl
   where
-  along : (hit : Bool) → eqb root id ≡ hit → hit ≡ true → owner s id ≡ None
-  along hit at yes_hit = subst (λ (n : ℕ). owner s n ≡ None) (eqb-true root id (at ∙ yes_hit)) free_root
-  by_gone : (hit : Bool) → eqb root id ≡ hit → object_at s.graph id ≡ None → owner s id ≡ None → None ≡ cond hit (Some s.len) (owner s id)
-  by_gone true at none own =
-      absurd (false≢true (sym (ap (λ (r : Option ObjectRow). is_some r) (subst (λ (n : ℕ). object_at s.graph n ≡ None) (sym (eqb-true root id at)) none)) ∙ there_root))
-  by_gone false at none own = sym own
-  by_row : (o : Option ObjectRow) → object_at s.graph id ≡ o → owner (step s e) id ≡ cond (eqb root id) (Some s.len) (owner s id)
-  by_row None at =
-      let both = (same_objects s e id same stand None at).1 refl in
-      both.0 ∙ by_gone (eqb root id) refl at both.1
-  by_row (Some row) at =
-      (same_objects s e id same stand (Some row) at).0 refl ∙
-      (ap (λ (o : Option ℕ). first_of_two (owner s id) (first_of_two (root_owner (root_of_start (start_of s e.what)) s.len id) o)) passed ∙
-      (ap (λ (o : Option ℕ). first_of_two (owner s id) (first_of_two (root_owner o s.len id) None)) is ∙
-      root_passed root s.len id (eqb root id) (owner s id) (along (eqb root id) refl)))
+    along : (hit : Bool) → eqb root id ≡ hit → hit ≡ true → owner s id ≡ None
+    along hit at yes_hit = subst (λ (n : ℕ). owner s n ≡ None) (eqb-true root id (at ∙ yes_hit)) free_root
+
+    by_gone : (hit : Bool) → eqb root id ≡ hit → object_at s.graph id ≡ None → owner s id ≡ None → None ≡ cond hit (Some s.len) (owner s id)
+    by_gone true at none own =
+        absurd (false≢true (sym (ap (λ (r : Option ObjectRow). is_some r) (subst (λ (n : ℕ). object_at s.graph n ≡ None) (sym (eqb-true root id at)) none)) ∙ there_root))
+    by_gone false at none own = sym own
+
+    by_row : (o : Option ObjectRow) → object_at s.graph id ≡ o → owner (step s e) id ≡ cond (eqb root id) (Some s.len) (owner s id)
+    by_row None at =
+        let both = (same_objects s e id same stand None at).1 refl in
+        both.0 ∙ by_gone (eqb root id) refl at both.1
+    by_row (Some row) at =
+        (same_objects s e id same stand (Some row) at).0 refl ∙
+        (ap (λ (o : Option ℕ). first_of_two (owner s id) (first_of_two (root_owner (root_of_start (start_of s e.what)) s.len id) o)) passed ∙
+        (ap (λ (o : Option ℕ). first_of_two (owner s id) (first_of_two (root_owner o s.len id) None)) is ∙
+        root_passed root s.len id (eqb root id) (owner s id) (along (eqb root id) refl)))
 
 same_edges : (s : State) (now : Graph) (id : ℕ) → ((key : EdgeKey) → edge_stands s.graph key ≡ true → edge_stands now key ≡ true) →
     first_passed s.rules now s.owners id s.graph.edges ≡ None
@@ -270,9 +272,9 @@ free_source : (rules : RuleSet) (now : Graph) (owners : Owners) (id : ℕ) (key 
     passed_by rules now owners id key ≡ None
 free_source rules now owners id key free = by_hit (eqb key.to id && condemns rules now key)
   where
-  by_hit : (hit : Bool) → cond hit (owner_in owners key.from) None ≡ None
-  by_hit true = free
-  by_hit false = refl
+    by_hit : (hit : Bool) → cond hit (owner_in owners key.from) None ≡ None
+    by_hit true = free
+    by_hit false = refl
 
 due_there : (moment : ℕ) (o : Option ObjectRow) → is_due_row moment o ≡ true → is_some o ≡ true
 due_there moment None due = absurd (false≢true due)
@@ -293,21 +295,21 @@ unlink_plain s moment tag edge from to name legal stand there_to free_to id pass
 unlink_plain s moment tag edge from to name legal stand there_to free_to id passed false is root =
     by_case (afterwards s (record { moment = moment; what = Unlink tag edge from to name }) legal stand id)
   where
-  by_case : Afterwards s (record { moment = moment; what = Unlink tag edge from to name }) id →
-      owner (step s (record { moment = moment; what = Unlink tag edge from to name })) id ≡ owner s id
-  by_case (Kept row at is) =
-      is ∙ (ap (λ (o : Option ℕ). first_of_two (owner s id) (first_of_two (root_owner (root_of_start (unlink_start s edge from to name)) s.len id) o)) passed ∙
-      (ap (λ (o : Option ℕ). first_of_two (owner s id) (first_of_two (root_owner o s.len id) None)) root ∙ first_none (owner s id)))
-  by_case (Unowned own now) = now ∙ sym own
-  by_case (Erased job is now) = absurd (cc is)
+    by_case : Afterwards s (record { moment = moment; what = Unlink tag edge from to name }) id →
+        owner (step s (record { moment = moment; what = Unlink tag edge from to name })) id ≡ owner s id
+    by_case (Kept row at is) =
+        is ∙ (ap (λ (o : Option ℕ). first_of_two (owner s id) (first_of_two (root_owner (root_of_start (unlink_start s edge from to name)) s.len id) o)) passed ∙
+        (ap (λ (o : Option ℕ). first_of_two (owner s id) (first_of_two (root_owner o s.len id) None)) root ∙ first_none (owner s id)))
+    by_case (Unowned own now) = now ∙ sym own
+    by_case (Erased job is now) = absurd (cc is)
 
 unlink_root : (s : State) (edge from to name : ℕ) → root_of_start (unlink_start s edge from to name) ≡ cond (is_some (unlink_start s edge from to name)) (Some to) None
 unlink_root s edge from to name = by_hit _
   where
-  by_hit : (hit : Bool) → root_of_start (cond hit (Some (to, Named name)) None) ≡
-      cond (is_some {T = ℕ × JobName} (cond hit (Some (to, Named name)) None)) (Some to) None
-  by_hit true = refl
-  by_hit false = refl
+    by_hit : (hit : Bool) → root_of_start (cond hit (Some (to, Named name)) None) ≡
+        cond (is_some {T = ℕ × JobName} (cond hit (Some (to, Named name)) None)) (Some to) None
+    by_hit true = refl
+    by_hit false = refl
 
 -- the case of a cut
 cut_owner : (job : ℕ) (source target own : Option ℕ) (hit c : Bool) → (hit ≡ true → own ≡ target) → (is_job job source || is_job job target) ≡ true →
@@ -316,13 +318,13 @@ cut_owner job source target own false c along line = first_none own
 cut_owner job source None own true true along line =
     ap (λ (o : Option ℕ). first_of_two o source) (along refl) ∙ by_line source line
   where
-  by_line : (o : Option ℕ) → (is_job job o || false) ≡ true → o ≡ Some job
-  by_line None own_line = absurd (false≢true own_line)
-  by_line (Some x) own_line = ap Some (eqb-true x job (by_or (eqb x job) own_line))
-    where
-    by_or : (b : Bool) → (b || false) ≡ true → b ≡ true
-    by_or true is = refl
-    by_or false is = is
+    by_line : (o : Option ℕ) → (is_job job o || false) ≡ true → o ≡ Some job
+    by_line None own_line = absurd (false≢true own_line)
+    by_line (Some x) own_line = ap Some (eqb-true x job (by_or (eqb x job) own_line))
+      where
+        by_or : (b : Bool) → (b || false) ≡ true → b ≡ true
+        by_or true is = refl
+        by_or false is = is
 cut_owner job source None own true false along line = first_none own
 cut_owner job source (Some t) own true c along line = ap (λ (o : Option ℕ). first_of_two o (first_of_two None (cond c source None))) (along refl) ∙ sym (along refl)
 
@@ -331,20 +333,22 @@ cut_plain : (s : State) (moment job edge from to : ℕ) → OwnedStand s → End
     owner (step s (record { moment = moment; what = Cut job edge from to })) id ≡ plain_owner s (Cut job edge from to) id
 cut_plain s moment job edge from to stand ends stood line id = by_row (object_at s.graph id) refl
   where
-  along : (hit : Bool) → eqb to id ≡ hit → hit ≡ true → owner s id ≡ owner s to
-  along hit at one = ap (λ (n : ℕ). owner s n) (sym (eqb-true to id (at ∙ one)))
-  gone_target : (hit : Bool) (rest : Bool) → eqb to id ≡ hit → object_at s.graph id ≡ None → owner s id ≡ None → None ≡ cond (hit && is_none (owner s to) && rest) (Some job) (owner s id)
-  gone_target true rest at none own =
-      absurd (false≢true (sym (ap (λ (r : Option ObjectRow). is_some r) (subst (λ (n : ℕ). object_at s.graph n ≡ None) (sym (eqb-true to id at)) none)) ∙ ends.target (key_of edge from to) stood))
-  gone_target false rest at none own = sym own
-  by_row : (o : Option ObjectRow) → object_at s.graph id ≡ o → owner (step s (record { moment = moment; what = Cut job edge from to })) id ≡ plain_owner s (Cut job edge from to) id
-  by_row None at =
-      let both = (same_objects s (record { moment = moment; what = Cut job edge from to }) id refl stand None at).1 refl in
-      both.0 ∙ gone_target (eqb to id) (condemns s.rules (changed s.graph (TakesEdge (key_of edge from to))) (key_of edge from to)) refl at both.1
-  by_row (Some row) at =
-      (same_objects s (record { moment = moment; what = Cut job edge from to }) id refl stand (Some row) at).0 refl ∙
-      (ap (λ (o : Option ℕ). first_of_two (owner s id) (first_of_two None o)) (taken_passes s.rules s.graph s.owners id (key_of edge from to) stood) ∙
-      cut_owner job (owner s from) (owner s to) (owner s id) (eqb to id) (condemns s.rules (changed s.graph (TakesEdge (key_of edge from to))) (key_of edge from to)) (along (eqb to id) refl) line)
+    along : (hit : Bool) → eqb to id ≡ hit → hit ≡ true → owner s id ≡ owner s to
+    along hit at one = ap (λ (n : ℕ). owner s n) (sym (eqb-true to id (at ∙ one)))
+
+    gone_target : (hit : Bool) (rest : Bool) → eqb to id ≡ hit → object_at s.graph id ≡ None → owner s id ≡ None → None ≡ cond (hit && is_none (owner s to) && rest) (Some job) (owner s id)
+    gone_target true rest at none own =
+        absurd (false≢true (sym (ap (λ (r : Option ObjectRow). is_some r) (subst (λ (n : ℕ). object_at s.graph n ≡ None) (sym (eqb-true to id at)) none)) ∙ ends.target (key_of edge from to) stood))
+    gone_target false rest at none own = sym own
+
+    by_row : (o : Option ObjectRow) → object_at s.graph id ≡ o → owner (step s (record { moment = moment; what = Cut job edge from to })) id ≡ plain_owner s (Cut job edge from to) id
+    by_row None at =
+        let both = (same_objects s (record { moment = moment; what = Cut job edge from to }) id refl stand None at).1 refl in
+        both.0 ∙ gone_target (eqb to id) (condemns s.rules (changed s.graph (TakesEdge (key_of edge from to))) (key_of edge from to)) refl at both.1
+    by_row (Some row) at =
+        (same_objects s (record { moment = moment; what = Cut job edge from to }) id refl stand (Some row) at).0 refl ∙
+        (ap (λ (o : Option ℕ). first_of_two (owner s id) (first_of_two None o)) (taken_passes s.rules s.graph s.owners id (key_of edge from to) stood) ∙
+        cut_owner job (owner s from) (owner s to) (owner s id) (eqb to id) (condemns s.rules (changed s.graph (TakesEdge (key_of edge from to))) (key_of edge from to)) (along (eqb to id) refl) line)
 
 -- the owner after a legal entry
 pub owner_plain : (s : State) (moment : ℕ) (what : What) → is_legal s (record { moment = moment; what = what }) ≡ true → OwnedStand s → EndsStand s.graph → (id : ℕ) →
@@ -377,29 +381,29 @@ owner_plain s moment (Expire root) legal stand ends id =
     (same_edges s (graph_after s moment (Expire root)) id (λ key stood. stood))
 owner_plain s moment (Cut job edge from to) legal stand ends id =
     let line = and_parts (edge_stands s.graph (key_of edge from to)) (is_owned_by s job from || is_owned_by s job to)
-        (allowed_of s (record { moment = moment; what = Cut job edge from to }) legal) in
+    (allowed_of s (record { moment = moment; what = Cut job edge from to }) legal) in
     cut_plain s moment job edge from to stand ends line.0 line.1 id
 owner_plain s moment (Erase job gone) legal stand ends id = by_hit (eqb gone id) refl
   where
-  by_hit : (hit : Bool) → eqb gone id ≡ hit → owner (step s (record { moment = moment; what = Erase job gone })) id ≡ cond hit None (owner s id)
-  by_hit true at =
-      owner_gone s (record { moment = moment; what = Erase job gone }) id
-      (find-filter_object gone s.graph.objects id ∙ ap (λ (b : Bool). cond b None (object_at s.graph id)) at)
-  by_hit false at =
-      by_case (afterwards s (record { moment = moment; what = Erase job gone }) legal stand id)
-    where
-    by_case : Afterwards s (record { moment = moment; what = Erase job gone }) id → owner (step s (record { moment = moment; what = Erase job gone })) id ≡ owner s id
-    by_case (Kept row here is) =
-        is ∙ (ap (λ (o : Option ℕ). first_of_two (owner s id) (first_of_two None o)) (same_edges s (graph_after s moment (Erase job gone)) id (λ key stood. stood)) ∙ first_none (owner s id))
-    by_case (Unowned own now) = now ∙ sym own
-    by_case (Erased other is now) = absurd (false≢true (sym at ∙ eq-eqb gone id (let same : gone ≡ id = cc in same)))
+    by_hit : (hit : Bool) → eqb gone id ≡ hit → owner (step s (record { moment = moment; what = Erase job gone })) id ≡ cond hit None (owner s id)
+    by_hit true at =
+        owner_gone s (record { moment = moment; what = Erase job gone }) id
+        (find-filter_object gone s.graph.objects id ∙ ap (λ (b : Bool). cond b None (object_at s.graph id)) at)
+    by_hit false at =
+        by_case (afterwards s (record { moment = moment; what = Erase job gone }) legal stand id)
+      where
+        by_case : Afterwards s (record { moment = moment; what = Erase job gone }) id → owner (step s (record { moment = moment; what = Erase job gone })) id ≡ owner s id
+        by_case (Kept row here is) =
+            is ∙ (ap (λ (o : Option ℕ). first_of_two (owner s id) (first_of_two None o)) (same_edges s (graph_after s moment (Erase job gone)) id (λ key stood. stood)) ∙ first_none (owner s id))
+        by_case (Unowned own now) = now ∙ sym own
+        by_case (Erased other is now) = absurd (false≢true (sym at ∙ eq-eqb gone id (let same : gone ≡ id = cc in same)))
 owner_plain s moment (Put job i) legal stand ends id =
     quiet_plain s (record { moment = moment; what = Put job i }) legal stand refl (λ other gone is. absurd (cc is)) id
     (same_edges s (graph_after s moment (Put job i)) id (λ key stood. put_change_stands s (slice_get s.items i) key stood))
   where
-  put_change_stands : (t : State) (o : Option Logged) (key : EdgeKey) → edge_stands t.graph key ≡ true → edge_stands (changed t.graph (put_change t o)) key ≡ true
-  put_change_stands t None key stood = stood
-  put_change_stands t (Some logged) key stood = edge_stands_put_item t logged.item (judged t logged.item) key stood
+    put_change_stands : (t : State) (o : Option Logged) (key : EdgeKey) → edge_stands t.graph key ≡ true → edge_stands (changed t.graph (put_change t o)) key ≡ true
+    put_change_stands t None key stood = stood
+    put_change_stands t (Some logged) key stood = edge_stands_put_item t logged.item (judged t logged.item) key stood
 owner_plain s moment (Purge job) legal stand ends id =
     quiet_plain s (record { moment = moment; what = Purge job }) legal stand refl (λ other gone is. absurd (cc is)) id
     (same_edges s (graph_after s moment (Purge job)) id (λ key stood. stood))

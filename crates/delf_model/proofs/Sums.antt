@@ -1,9 +1,8 @@
 -- Sums over rows after a change, each as a bound.
-use Rattle.std.proofs.Common.{◌≡◌, ℕ, zero, suc, ◌+◌, ◌≤◌, ◌<◌, Bool, true, false, cond, not, ◌&&◌, ◌||◌, eqb, ltb, List, [], ◌∷◌, ◌++◌, Option, Some, None, refl, sym, ap, ◌∙◌, subst, arith}
-use Rattle.std.proofs.lemmas.List.Sums.{sum_by-cons, sum_by-append}
-use Rattle.std.specs.Prelude.{find, filter, map, sum_by, count_by, slice_get, is_some}
+use Rattle.std.proofs.Common.{◌≡◌, ℕ, zero, suc, ◌+◌, ◌≤◌, ◌<◌, Bool, true, false, cond, not, eqb, ltb, List, [], ◌∷◌, Some, refl, ap, ◌∙◌, arith}
+use Rattle.std.proofs.lemmas.List.Sums.{sum_by-cons}
+use Rattle.std.specs.Prelude.{find, filter, map, sum_by, count_by, slice_get}
 use Rattle.delf_model.specs.declared.rows.ObjectRow.{ObjectRow}
-use Rattle.delf_model.specs.declared.rows.EdgeKey.{EdgeKey}
 use Rattle.delf_model.specs.declared.rows.EdgeRow.{EdgeRow}
 use Rattle.delf_model.specs.Graph.{put_object, put_edge, key_before, same_key}
 use Rattle.delf_model.specs.State.{Logged, Handled, handled_at}
@@ -80,8 +79,13 @@ pub sum_handled : (f : Logged → ℕ) (items : List Logged) (i : ℕ) (how : Ha
 sum_handled f [] i how logged at = absurd (cc at)
 sum_handled f (x ∷ xs) zero how logged at =
     let same : x ≡ logged = cc in
-    omega (arith, sum_by-cons f (record { item = x.item; handled = Some how }) xs, sum_by-cons f x xs, ap f same,
-      ap (λ (l : Logged). f (record { item = l.item; handled = Some how })) same)
+    omega (
+      arith,
+      sum_by-cons f (record { item = x.item; handled = Some how }) xs,
+      sum_by-cons f x xs,
+      ap f same,
+      ap (λ (l : Logged). f (record { item = l.item; handled = Some how })) same,
+    )
 sum_handled f (x ∷ xs) (suc i) how logged at =
     omega (arith, sum_by-cons f x (handled_at xs i how), sum_by-cons f x xs, sum_handled f xs i how logged at)
 
@@ -90,12 +94,12 @@ pub count_found : {A : Type 0} (p q : A → Bool) (row : A) (xs : List A) → fi
 count_found p q row [] found one = absurd (cc found)
 count_found p q row (x ∷ xs) found one = by_hit (p x) refl found (count_found p q row xs)
   where
-  by_hit : (hit : Bool) → p x ≡ hit → cond hit (Some x) (find p xs) ≡ Some row → (find p xs ≡ Some row → q row ≡ true → 0 < count_by q xs) → 0 < count_by q (x ∷ xs)
-  by_hit true is here IH =
-      let same : x ≡ row = cc in
-      let counts : cond (q x) 1 0 ≡ 1 = ap (λ (b : Bool). one_of b) (ap q same ∙ one) in
-      omega (arith, sum_by-cons (λ y. cond (q y) 1 0) x xs, counts)
-    where
-    one_of : Bool → ℕ
-    one_of b = cond b 1 0
-  by_hit false is here IH = omega (arith, sum_by-cons (λ y. cond (q y) 1 0) x xs, IH here one)
+    by_hit : (hit : Bool) → p x ≡ hit → cond hit (Some x) (find p xs) ≡ Some row → (find p xs ≡ Some row → q row ≡ true → 0 < count_by q xs) → 0 < count_by q (x ∷ xs)
+    by_hit true is here IH =
+        let same : x ≡ row = cc in
+        let counts : cond (q x) 1 0 ≡ 1 = ap (λ (b : Bool). one_of b) (ap q same ∙ one) in
+        omega (arith, sum_by-cons (λ y. cond (q y) 1 0) x xs, counts)
+      where
+        one_of : Bool → ℕ
+        one_of b = cond b 1 0
+    by_hit false is here IH = omega (arith, sum_by-cons (λ y. cond (q y) 1 0) x xs, IH here one)

@@ -9,6 +9,9 @@ ghost use Rattle.delf_model.specs.declared.schema.ObjectRule.TheVariants.{ByAny}
 ghost use Rattle.delf_model.specs.Legal.{is_legal_from};
 ghost use Rattle.delf_model.specs.State.{start};
 ghost use Rattle.delf_model.specs.Report.{status, job_at, listed_at};
+ghost use Rattle.delf_model.specs.declared.entry.What.TheVariants.{Create};
+ghost use Rattle.delf_model.specs.Payloads.{Journal, Vault, is_needed, last_carrier, payloads_after, no_payloads, IsDamaged};
+ghost use Rattle.delf_model.specs.Closure.{union, items_of_job};
 ghost use Rattle.delf_model.specs.Worked.{Accepted, Refused, Worked, Idle, Tick, Work, played, after_orders, opened, example_rules, page_rules, plain_path, last_reference, deep_over_refcount, two_jobs, restore_meets_link, expiry, refusals_in_turn, own_reference, create, restore, object, edge, user, photo, album, session, owning};
 
 /// A user and a photo that it owns are deleted in three steps.
@@ -113,4 +116,24 @@ pub fn own_reference_holds()
     ensures answers { (after_orders (opened page_rules 0) own_reference).answers ≡
         Accepted 0 ∷ Accepted 1 ∷ Accepted 2 ∷ Accepted 3 ∷ Accepted 4 ∷ Accepted 5 ∷ Idle 1 ∷ [] }
     ensures objects { (after_orders (opened page_rules 0) own_reference).state.graph.objects ≡ object 2 0 2 0 ∷ [] }
+{}
+
+/// A payload is needed where its row stands or may be put back: live, then as logged, then live again, until it is purged.
+pub fn payload_moves()
+    ensures live { is_needed (played 0 (create 1 user (97 ∷ []) ∷ [])).state 0 ≡ true }
+    ensures logged { last_carrier (played 0 plain_path).state 0 ≡ Vault 1 }
+    ensures put_back { last_carrier (played 0 (plain_path ++ restore (Named 40) ∷ Work 10 ∷ [])).state 0 ≡ Journal 9 }
+    ensures purged { is_needed (played 0 (plain_path ++ Tick 101 ∷ Work 10 ∷ [])).state 0 ≡ false }
+    ensures kept { payloads_after (λ bytes. bytes) (start example_rules)
+        (record { moment = 0; what = Create (record { seat = 0; k = 0 }) user 1 1 }) (97 ∷ []) no_payloads ≡
+        record { bytes = (0, 97 ∷ []) ∷ []; seals = [] } }
+{}
+
+/// The union of a graph and logged rows has each row that fits, and the closure of a user holds its photo.
+pub fn rows_join()
+    ensures objects { (union (played 0 plain_path).state (items_of_job 3 (played 0 plain_path).state.items)).objects ≡
+        object 1 user 0 1 ∷ object 2 photo 1 1 ∷ [] }
+    ensures edges { (union (played 0 plain_path).state (items_of_job 3 (played 0 plain_path).state.items)).edges ≡ edge owning 1 2 2 ∷ [] }
+    ensures damaged { IsDamaged (λ bytes. bytes) (played 0 plain_path).state
+        (record { bytes = (0, 97 ∷ []) ∷ (1, 98 ∷ []) ∷ []; seals = [] ∷ (99 ∷ []) ∷ (98 ∷ []) ∷ [] }) 1 }
 {}
