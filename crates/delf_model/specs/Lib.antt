@@ -1,4 +1,6 @@
+pub mod Checked
 pub mod Closure
+pub mod Distances
 pub mod Graph
 pub mod Legal
 pub mod Names

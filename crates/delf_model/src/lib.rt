@@ -8,7 +8,9 @@ mod graph_store;
 mod ids;
 mod list;
 mod name;
+mod numbering;
 mod rows;
+mod rules;
 mod schema;
 
 pub use bytes::Bytes;
@@ -17,6 +19,7 @@ pub use entry::{Entry, Tag, What};
 pub use graph_store::GraphStore;
 pub use ids::{EdgeNo, Job, JobName, Moment, ObjectId, TypeNo};
 pub use list::List;
-pub use name::{Name, NameFault};
+pub use name::{Name, NameFault, is_name_byte, is_name_text};
 pub use rows::{EdgeKey, EdgeRow, Item, ObjectRow};
+pub use rules::Rules;
 pub use schema::{EdgeRule, EdgeShape, EdgeType, ObjectRule, ObjectType, Schema};
