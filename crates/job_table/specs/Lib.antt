@@ -1,0 +1,6 @@
+pub mod Apart
+pub mod Fits
+pub mod Items
+pub mod Next
+pub mod Parts
+pub mod Table
