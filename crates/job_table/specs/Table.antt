@@ -71,10 +71,10 @@ pub record IsTableOf (s : State) (t : Table) : Type 0 where
   pub keeps : Keeps s
 
 -- graph and rules are those of the state, and the graph counts edges of its refcount types
-pub record IsGraphOf (s : State) (g : Graph) (counts : ℕ → Bool) (rules : RuleSet) : Type 0 where
-  pub graph : g ≡ s.graph
-  pub rules : rules ≡ s.rules
-  pub counts : (edge : ℕ) → counts edge ≡ is_refcount s.rules edge
+pub record IsGraphOf (s : State) (stored : Graph) (refs : ℕ → Bool) (ruled : RuleSet) : Type 0 where
+  pub graph : stored ≡ s.graph
+  pub rules : ruled ≡ s.rules
+  pub counts : (edge : ℕ) → refs edge ≡ is_refcount s.rules edge
 
 -- the entry is legal in a state that table, graph and rules stand for
 abbrev pub MayApply : Table → Graph → (ℕ → Bool) → RuleSet → Entry → Type 0
