@@ -1,8 +1,9 @@
-ghost use Rattle.std.specs.Prelude.{◌≡◌, ◌+◌, ◌<◌, ◌≤◌, ◌^◌, ◌++◌, ◌∷◌, [], OnOk, length, slice_get, option_map, count_by};
+ghost use Rattle.std.specs.Prelude.{◌≡◌, ◌+◌, ◌<◌, ◌≤◌, ◌^◌, ◌++◌, ◌∷◌, [], OnOk, length, slice_get, option_map, count_by, sum_by};
 ghost use Rattle.job_table.specs.Parts.{logged_of, handled_of};
 ghost use Rattle.delf_model.specs.State.{unhandled, handled_at, job_of as job_of_item, is_object_item};
 ghost use Rattle.delf_model.specs.Report.{is_of_job, is_object_of, is_edge_of, is_put_of, is_listed_of, listed_from, was_put as was_put_back, was_listed as was_listed_so};
 ghost use Rattle.job_table.specs.Items.{is_unhandled_of, listing_of};
+ghost use Rattle.job_table.specs.Notes.{weight_of};
 
 use delf_model::{Cause, Item, Job, Listed};
 use std::alloc::{AllocError, Global};
@@ -128,6 +129,18 @@ impl Items {
         self.items.iter().filter(|kept| job_of(&kept.item) == job.0 && kept.handled.is_none()).count() as u32
     }
 
+    /// What the unhandled items of the job count once it is restored.
+    pub fn weight(&self, job: Job) -> u32
+        requires { sum_by (weight_of job) self.now.list < 2 ^ 32 }
+        ensures { result ≡ sum_by (weight_of job) self.now.list }
+    {
+        let mut sum = 0;
+        for kept in &self.items {
+            sum += weight(job, kept);
+        }
+        sum
+    }
+
     /// The listed item of the job at this place, by falling item number.
     pub fn listed_at(&self, job: Job, place: u32) -> Option<Listed>
         ensures { result ≡ slice_get (listed_from job 0 self.now.list) place }
@@ -200,4 +213,13 @@ fn listing(job: Job, i: u32, kept: &Kept) -> Option<Listed>
         }),
         _ => None,
     }
+}
+
+fn weight(job: Job, kept: &Kept) -> u32
+    ensures { result ≡ weight_of job (logged_of kept.now) }
+{
+    if job_of(&kept.item) != job.0 || kept.handled.is_some() {
+        return 0;
+    }
+    if is_object(&kept.item) { 4 } else { 2 }
 }

@@ -1,6 +1,7 @@
 //! The state after a history without its graph, kept entry by entry.
 #![tactic(auto)]
 
+mod apply;
 mod claims;
 mod items;
 mod jobs;

@@ -254,26 +254,6 @@ impl JobTable {
         self.items.listed_at(job, i)
     }
 
-    /// The entry is noted: the table then stands for the state after it. The graph is the one before the entry, the
-    /// entry is legal, and spare is above 0. Takes no memory, and lowers spare by one.
-    pub fn apply<G: GraphStore>(&mut self, graph: &G, rules: &Rules, entry: &Entry)
-        requires legal { MayApply self.old (G.graph graph.now) (G.counts graph.now) rules.now entry.now }
-        requires spare { 0 < self.old.spare }
-        ensures table { (s : State) → IsTableOf s self.old → IsGraphOf s (G.graph graph.now) (G.counts graph.now) rules.now → is_legal s entry.now ≡ true → IsTableOf (step s entry.now) self.new }
-        ensures held { self.new.held ≡ self.old.held }
-        ensures spare { self.new.spare + 1 ≡ self.old.spare }
-    {
-    }
-
-    /// What is to be done at this moment, which is none before the last entry and none past the greatest: where no
-    /// step is held the first step of the serial order, else a legal step that is not held. Takes no memory.
-    pub fn next<G: GraphStore>(&self, graph: &G, rules: &Rules, moment: Moment) -> Next
-        ensures serial { (s : State) → IsTableOf s self.now → IsGraphOf s (G.graph graph.now) (G.counts graph.now) rules.now → self.now.held ≡ [] → IsSerial s moment result }
-        ensures free { (s : State) → IsTableOf s self.now → IsGraphOf s (G.graph graph.now) (G.counts graph.now) rules.now → 0 < length self.now.held → s.moment ≤ moment → moment ≤ greatest_moment → IsFreeNext s moment self.now.held result }
-    {
-        Next::Idle
-    }
-
     /// The status of the job with this row.
     pub(crate) fn status_of(&self, row: &Row) -> Status
         ensures { (s : State) → IsTableOf s self.now → result ≡ status_of_row s (row_of row.now) }
