@@ -13,16 +13,17 @@ use Rattle.delf_model.specs.declared.ids.JobName.TheVariants.{Named, Expiry}
 use Rattle.delf_model.specs.RuleSet.{RuleSet, is_refcount}
 use Rattle.delf_model.specs.Graph.{Graph, changed, TakesEdge, object_at, edge_at, edge_stands, objects_rise, has_refs, has_id}
 use Rattle.delf_model.specs.Store.{counted_refs}
-use Rattle.delf_model.specs.State.{State, JobRow, Owners, owner, owned, owner_in, owners_after, step, new_job, is_restored, is_restored_row, job_row, jobs_after, items_after, seats_with, tag_of, key_of, unlink_start, root_of_start, started_job, restored_at, purged_if, is_pair_of, first_passed, graph_after, left}
+use Rattle.delf_model.specs.State.{State, JobRow, Owners, owner, owned, owner_in, owners_after, step, new_job, is_restored, is_restored_row, job_row, jobs_after, items_after, seats_with, tag_of, key_of, unlink_start, root_of_start, started_job, restored_at, purged_if, starts_at, is_pair_of, first_passed, graph_after, left}
 use Rattle.delf_model.specs.Legal.{room, owed, room_limit, owed_for_edge, owed_for_job, owed_for_item, is_legal, absent, condemned, is_due_row, full, no_edge, no_job, pending, restored_before, window_over, may_expire, is_named_so, may_purge, window_passed}
 use Rattle.job_table.specs.Table.{Table, IsTableOf, Keeps, starts_rise, owner_among, owned_among, id_of_owner, id_of}
+use Rattle.job_table.specs.Parts.{changed_first}
 use Rattle.job_table.specs.Notes.{noted, noted_start, noted_restore, noted_purge, with_seat, weight_of}
 use Rattle.job_table.proofs.Lookups.{both, all_found}
 use Rattle.job_table.proofs.Sums.{sum_by-filter_edge}
 use Rattle.job_table.proofs.Passing.{one_if, first_passed_none}
 use Rattle.job_table.proofs.Steps.{Ordered, ids_after, eqb_is, nothing_passed, condemns_by_count}
 use Rattle.job_table.proofs.Moves.{Same, Added, Gained, same_moved, unpassed_moved, gained_moved, same_pairs}
-use Rattle.job_table.proofs.Rows.{is_restored-restored, is_restored-purged, starts_wider, starts_map, owed_items-same, owed_items-restored, owed_jobs-same, owed_jobs-purged}
+use Rattle.job_table.proofs.Rows.{is_restored-restored, is_restored-purged, starts_wider, starts_map, owed_items-same, owed_items-restored, owed_jobs-same, owed_jobs-purged, changed_is_map, purged_other, restored_other}
 use Rattle.job_table.proofs.Accounts.{allowed, none_of_two, there, free, assembled, counts_same, owes}
 use Rattle.job_table.proofs.Calls.{room_left, edge_there, none_pending, job_there, not_restored, start_step, jobs_started, items_started}
 
@@ -273,7 +274,8 @@ restore_step s m job tag t o h l =
     (ids_after s.rules s.graph s.graph None s.len s.owners s.graph.objects)
     o.objects (noted_restore t m (Some tag.seat) job (t.owed + sum_by (weight_of job) t.items)) refl refl refl
     (omega (arith, h.owed, restore_owed s m job tag h.keeps l, weights)) h.items
-    (ap (λ (n : ℕ). map (restored_at job n) t.jobs) h.len ∙ ap (map (restored_at job s.len)) h.jobs)
+    (ap (λ (n : ℕ). changed_first (starts_at job) (restored_at job n) t.jobs) h.len ∙ ap (changed_first (starts_at job) (restored_at job s.len)) h.jobs
+    ∙ changed_is_map (restored_at job s.len) job 0 s.len s.jobs (restored_other job s.len) h.keeps.starts)
     (ap (λ (l : List ℕ). l ++ tag.seat ∷ []) h.seats) facts.4
     (starts_map (restored_at job s.len) 0 (s.len + 1) s.jobs (restored_start job s.len) (starts_wider 0 s.len (s.len + 1) s.jobs (omega arith) h.keeps.starts))
     (λ other r. idle other facts.2 (h.keeps.idle other) (nat_eq other job) refl (is_restored s.jobs other) refl (sym (is_restored-restored job s.len other facts.0 s.jobs facts.1) ∙ r))
@@ -323,6 +325,6 @@ purge_step s m job t o h l =
     same_step s (record { moment = m; what = Purge job }) t s.graph.objects o h (restore_same s h.keeps)
     (ids_after s.rules s.graph s.graph None s.len s.owners s.graph.objects)
     o.objects (noted_purge t m job (t.owed - 1)) refl refl refl
-    (omega (arith, h.owed, less)) h.items (ap (map (purged_if job)) h.jobs) h.seats (omega (arith, less, h.keeps.within))
+    (omega (arith, h.owed, less)) h.items (ap (changed_first (starts_at job) (purged_if job)) h.jobs ∙ changed_is_map (purged_if job) job 0 s.len s.jobs (purged_other job) h.keeps.starts) h.seats (omega (arith, less, h.keeps.within))
     (starts_map (purged_if job) 0 (s.len + 1) s.jobs (purged_start job) (starts_wider 0 s.len (s.len + 1) s.jobs (omega arith) h.keeps.starts))
     (λ other r. h.keeps.idle other (sym (is_restored-purged job other s.jobs) ∙ r))

@@ -11,16 +11,17 @@ use Rattle.delf_model.specs.declared.entry.Entry.{Entry}
 use Rattle.delf_model.specs.declared.entry.What.{What}
 use Rattle.delf_model.specs.declared.entry.What.TheVariants.{Cut, Erase}
 use Rattle.delf_model.specs.Graph.{Graph, changed, TakesEdge, TakesObject, object_at, edge_at, edge_stands, objects_rise, has_id, has_key, is_touched, is_other_object}
-use Rattle.delf_model.specs.State.{State, JobRow, Logged, Owners, owner, owned, owner_in, owners_after, step, is_restored, job_row, jobs_after, items_after, key_of, erased_at, is_job, is_owned_by, unhandled, birth_of, edge_item, object_item, condemns, job_of}
+use Rattle.delf_model.specs.State.{State, JobRow, Logged, Owners, owner, owned, owner_in, owners_after, step, is_restored, job_row, jobs_after, items_after, key_of, starts_at, erased_at, is_job, is_owned_by, unhandled, birth_of, edge_item, object_item, condemns, job_of}
 use Rattle.delf_model.specs.Legal.{room, owed, room_limit, owed_for_edge, owed_for_job, owed_for_item, is_legal}
 use Rattle.job_table.specs.Table.{Table, IsTableOf, Keeps, starts_rise, owner_among, owned_among, id_of_owner, id_of}
+use Rattle.job_table.specs.Parts.{changed_first}
 use Rattle.job_table.specs.Notes.{noted, noted_item}
 use Rattle.job_table.proofs.Lookups.{both}
 use Rattle.job_table.proofs.Passing.{one_if, no_owner}
 use Rattle.job_table.proofs.Steps.{Ordered, ids_after, eqb_is, eqb_self, edge_key_is}
 use Rattle.job_table.proofs.Totals.{total, weighed, objects_rise_filter}
 use Rattle.job_table.proofs.Moves.{Same, Gained, Dropped, cut_same, cut_gained, dropped_moved, gained_pairs, dropped_pairs}
-use Rattle.job_table.proofs.Rows.{is_restored-erased, starts_wider, starts_map, owed_items-same, owed_items-push, owed_jobs-same}
+use Rattle.job_table.proofs.Rows.{is_restored-erased, starts_wider, starts_map, owed_items-same, owed_items-push, owed_jobs-same, changed_is_map, erased_other}
 use Rattle.job_table.proofs.Accounts.{allowed, assembled, counts_gained, counts_dropped, pairs_push, owes, owned_total, counts_for, is_job_self}
 use Rattle.job_table.proofs.Begins.{some_of, same_step, unlink_edges}
 
@@ -169,7 +170,7 @@ cut_plain_step s m job edge from to t o h f p =
     o.objects (noted_item t m job (cut_item s job f.row) (t.owed - 1)) refl refl refl
     (omega (arith, h.owed, less))
     (ap (λ (l : List Logged). l ++ unhandled (cut_item s job f.row) ∷ []) h.items ∙ sym (cut_items s m job edge from to f))
-    (ap (map (erased_at job m)) h.jobs) h.seats (omega (arith, less, h.keeps.within))
+    (ap (changed_first (starts_at job) (erased_at job m)) h.jobs ∙ changed_is_map (erased_at job m) job 0 s.len s.jobs (erased_other job m) h.keeps.starts) h.seats (omega (arith, less, h.keeps.within))
     (starts_erased s job m h.keeps)
     (λ other r. h.keeps.idle other (sym (is_restored-erased job m other s.jobs) ∙ r))
 
@@ -213,7 +214,7 @@ cut_passing_step s m job edge from to t o h f p =
     (gained_pairs to job s.owners next.owners s.graph.objects s.graph.objects t.owners g h.owners)
     (λ other. pairs_push to job other t.owners ∙ omega (arith, h.owned other, counts other))
     (ap (λ (l : List Logged). l ++ unhandled (cut_item s job f.row) ∷ []) h.items ∙ sym (cut_items s m job edge from to f))
-    (ap (map (erased_at job m)) h.jobs) h.seats (omega (arith, less, h.keeps.within))
+    (ap (changed_first (starts_at job) (erased_at job m)) h.jobs ∙ changed_is_map (erased_at job m) job 0 s.len s.jobs (erased_other job m) h.keeps.starts) h.seats (omega (arith, less, h.keeps.within))
     (starts_erased s job m h.keeps)
     (λ other r. idle other counts (sym (is_restored-erased job m other s.jobs) ∙ r) (nat_eq job other) refl)
   where
@@ -268,6 +269,6 @@ erase_step s m job id t left o h f owners owned' =
     (λ other. let was : cond (is_job other (owner_among t.owners id)) 1 0 ≡ one_if (nat_eq job other) = ap (λ (v : Option ℕ). one_if (is_job other v)) (h.owners id ∙ f.owns) in
         omega (arith, owned' other, was, h.owned other, counts other))
     (ap (λ (l : List Logged). l ++ unhandled (item.Object job f.row) ∷ []) h.items ∙ sym (erase_items s job id f))
-    (ap (map (erased_at job m)) h.jobs) h.seats (omega (arith, less, h.keeps.within))
+    (ap (changed_first (starts_at job) (erased_at job m)) h.jobs ∙ changed_is_map (erased_at job m) job 0 s.len s.jobs (erased_other job m) h.keeps.starts) h.seats (omega (arith, less, h.keeps.within))
     (starts_erased s job m h.keeps)
     (λ other r. let was : owned s other ≡ 0 = h.keeps.idle other (sym (is_restored-erased job m other s.jobs) ∙ r) in omega (arith, counts other, was))

@@ -1,4 +1,7 @@
 pub mod Applied
+pub mod Places
+pub mod Lefts
+pub mod Listing
 pub mod Sums
 pub mod Lookups
 pub mod Passing

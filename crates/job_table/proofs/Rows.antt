@@ -10,6 +10,7 @@ use Rattle.delf_model.specs.Legal.{owed_for_job, owed_for_item}
 use Rattle.job_table.specs.Table.{starts_rise}
 use Rattle.job_table.specs.Items.{is_unhandled_of}
 use Rattle.job_table.specs.Notes.{weight_of}
+use Rattle.job_table.specs.Parts.{changed_first}
 use Rattle.job_table.proofs.Lookups.{both, join}
 use Rattle.job_table.proofs.Sums.{sum_by-same}
 
@@ -216,3 +217,36 @@ owed_items-restored old new job (x ∷ xs) e n =
     split : (h o j r k : Bool) → r ≡ (o || j) → (j ≡ true → o ≡ false) →
         cond (h && r) (cond k 4 2) 0 ≡ cond (h && o) (cond k 4 2) 0 + cond (j && h) (cond k 4 2) 0
     split h o j r k e f = grind (arith, nat_tests, common_steps)
+
+-- starts stand once, so the first row that starts there is the only one
+
+pub changed_nothing : (f : JobRow → JobRow) (job : ℕ) (rows : List JobRow) → ((row : JobRow) → nat_eq row.start job ≡ false → f row ≡ row) →
+    job_row rows job ≡ None → map f rows ≡ rows
+changed_nothing f job [] e n = refl
+changed_nothing f job (x ∷ xs) e n = go (nat_eq x.start job) refl n (changed_nothing f job xs e)
+  where
+    go : (b : Bool) → nat_eq x.start job ≡ b → cond b (Some x) (job_row xs job) ≡ None → (job_row xs job ≡ None → map f xs ≡ xs) → f x ∷ map f xs ≡ x ∷ xs
+    go true h m more = absurd (cc m)
+    go false h m more = ap (λ (y : JobRow). y ∷ map f xs) (e x h) ∙ ap (λ (l : List JobRow). x ∷ l) (more m)
+
+pub changed_is_map : (f : JobRow → JobRow) (job low len : ℕ) (rows : List JobRow) → ((row : JobRow) → nat_eq row.start job ≡ false → f row ≡ row) →
+    starts_rise low len rows ≡ true → changed_first (starts_at job) f rows ≡ map f rows
+changed_is_map f job low len [] e h = refl
+changed_is_map f job low len (x ∷ xs) e h =
+    let parts = both (not (nat_lt x.start low) && nat_lt x.start len) (starts_rise (suc x.start) len xs) h in
+    go (nat_eq x.start job) refl (changed_is_map f job (suc x.start) len xs e parts.1)
+    (λ s. changed_nothing f job xs e (none_starts_below (suc x.start) len job xs parts.1 (let l : job < suc x.start = grind (arith, nat_tests, s) in l)))
+  where
+    go : (b : Bool) → nat_eq x.start job ≡ b → changed_first (starts_at job) f xs ≡ map f xs → (nat_eq x.start job ≡ true → map f xs ≡ xs) →
+        cond b (f x ∷ xs) (x ∷ changed_first (starts_at job) f xs) ≡ f x ∷ map f xs
+    go true s more rest = ap (λ (l : List JobRow). f x ∷ l) (sym (rest s))
+    go false s more rest = ap (λ (l : List JobRow). x ∷ l) more ∙ ap (λ (y : JobRow). y ∷ map f xs) (sym (e x s))
+
+pub erased_other : (job moment : ℕ) (row : JobRow) → nat_eq row.start job ≡ false → erased_at job moment row ≡ row
+erased_other job moment row e = ap (λ (b : Bool). cond b (record row { last = Some moment }) row) e
+
+pub purged_other : (job : ℕ) (row : JobRow) → nat_eq row.start job ≡ false → purged_if job row ≡ row
+purged_other job row e = ap (λ (b : Bool). cond b (record row { purged = true }) row) e
+
+pub restored_other : (job position : ℕ) (row : JobRow) → nat_eq row.start job ≡ false → restored_at job position row ≡ row
+restored_other job position row e = ap (λ (b : Bool). cond b (record row { restored = Some position }) row) e

@@ -231,3 +231,21 @@ condemns_by_count rules counts g key row c o e =
         ap (λ (k : EdgeKey). one_if (is_refcount rules k.edge && nat_eq k.to key.to)) (edge_key_is key row g.edges e)
         ∙ ap (λ (b : Bool). one_if (b && nat_eq key.to key.to)) h
         ∙ ap one_if (eqb_self key.to)
+
+pub last_by_count : (rules : RuleSet) (counts : ℕ → Bool) (g : Graph) (key : EdgeKey) (row : EdgeRow) →
+    ((edge : ℕ) → counts edge ≡ is_refcount rules edge) → edges_rise g.edges ≡ true → edge_at g key ≡ Some row →
+    (is_refcount rules key.edge && not (has_refs rules (changed g (TakesEdge key)) key.to)) ≡
+    (is_refcount rules key.edge && nat_eq (counted_refs counts g key.to) 1)
+last_by_count rules counts g key row c o e =
+    condemns_case false (is_refcount rules key.edge) (has_refs rules (changed g (TakesEdge key)) key.to)
+    (count_by (is_reference rules key.to) (filter (is_other_edge key) g.edges)) (counted_refs counts g key.to)
+    (λ h. omega (arith, sum_by-filter_edge (λ r. one_if (is_reference rules key.to r)) key row g.edges o e, same, one h))
+    (any_is_count (is_reference rules key.to) (filter (is_other_edge key) g.edges))
+  where
+    same : counted_refs counts g key.to ≡ count_by (is_reference rules key.to) g.edges
+    same = sum_by-same (λ r. one_if (is_counted counts key.to r)) (λ r. one_if (is_reference rules key.to r)) g.edges (λ r. ap (λ (b : Bool). one_if (b && nat_eq r.key.to key.to)) (c r.key.edge))
+    one : is_refcount rules key.edge ≡ true → one_if (is_reference rules key.to row) ≡ 1
+    one h =
+        ap (λ (k : EdgeKey). one_if (is_refcount rules k.edge && nat_eq k.to key.to)) (edge_key_is key row g.edges e)
+        ∙ ap (λ (b : Bool). one_if (b && nat_eq key.to key.to)) h
+        ∙ ap one_if (eqb_self key.to)

@@ -1,4 +1,4 @@
-use Rattle.std.specs.Prelude.{ℕ, ◌+◌, ◌-◌, Bool, cond, ◌&&◌, ◌||◌, nat_eq, List, [], ◌∷◌, ◌++◌, Option, Some, None, map}
+use Rattle.std.specs.Prelude.{ℕ, ◌+◌, ◌-◌, Bool, cond, ◌&&◌, ◌||◌, nat_eq, List, [], ◌∷◌, ◌++◌, Option, Some, None}
 use Rattle.delf_model.specs.declared.ids.JobName.{JobName}
 use Rattle.delf_model.specs.declared.rows.Item.{Item}
 use Rattle.delf_model.specs.declared.rows.EdgeKey.{EdgeKey}
@@ -6,9 +6,10 @@ use Rattle.delf_model.specs.declared.call.Cause.{Cause}
 use Rattle.delf_model.specs.RuleSet.{RuleSet, is_deep, is_refcount}
 use Rattle.delf_model.specs.Graph.{Graph}
 use Rattle.delf_model.specs.Store.{counted_refs}
-use Rattle.delf_model.specs.State.{Logged, Handled, is_object_item, new_job, restored_at, purged_if, erased_at, unhandled, handled_at}
+use Rattle.delf_model.specs.State.{Logged, Handled, is_object_item, new_job, starts_at, restored_at, purged_if, erased_at, unhandled, handled_at}
 use Rattle.job_table.specs.Table.{Table}
 use Rattle.job_table.specs.Items.{is_unhandled_of}
+use Rattle.job_table.specs.Parts.{changed_first}
 
 abbrev pub with_seat : List ℕ → Option ℕ → List ℕ
 with_seat seats None = seats
@@ -34,20 +35,20 @@ noted_start t moment seat root name owed = record (noted t moment seat owed) {
 -- an entry that restores a job
 abbrev pub noted_restore : Table → ℕ → Option ℕ → ℕ → ℕ → Table
 noted_restore t moment seat job owed = record (noted t moment seat owed) {
-  jobs = map (restored_at job t.len) t.jobs;
+  jobs = changed_first (starts_at job) (restored_at job t.len) t.jobs;
 }
 
 -- an entry that purges a job
 abbrev pub noted_purge : Table → ℕ → ℕ → ℕ → Table
 noted_purge t moment job owed = record (noted t moment None owed) {
-  jobs = map (purged_if job) t.jobs;
+  jobs = changed_first (starts_at job) (purged_if job) t.jobs;
 }
 
 -- an entry that logs an item
 abbrev pub noted_item : Table → ℕ → ℕ → Item → ℕ → Table
 noted_item t moment job row owed = record (noted t moment None owed) {
   items = t.items ++ unhandled row ∷ [];
-  jobs = map (erased_at job moment) t.jobs;
+  jobs = changed_first (starts_at job) (erased_at job moment) t.jobs;
 }
 
 -- an entry that handles an item

@@ -1,8 +1,9 @@
-ghost use Rattle.std.specs.Prelude.{◌≡◌, ◌+◌, ◌-◌, ◌<◌, ◌≤◌, ◌++◌, ◌∷◌, [], true, false, cond, nat_eq, None, ℕ, ◌^◌, length, sum_by};
+ghost use Rattle.std.specs.Prelude.{◌≡◌, ◌+◌, ◌-◌, ◌<◌, ◌≤◌, ◌++◌, ◌∷◌, [], true, false, cond, nat_eq, None, ℕ, ◌^◌, length, sum_by, Some, IsTrue, is_none, ◌&&◌};
 ghost use Rattle.delf_model.specs.declared.entry.What.{What};
 ghost use Rattle.delf_model.specs.declared.entry.Entry.{Entry};
-ghost use Rattle.delf_model.specs.Graph.{edge_at, stands};
-ghost use Rattle.delf_model.specs.State.{State, step, judged as judgement_of, birth_of, is_job, first_of_two, end_cause, key_taken};
+ghost use Rattle.delf_model.specs.Graph.{edge_at, edge_stands, stands};
+ghost use Rattle.delf_model.specs.declared.rows.EdgeRow.{EdgeRow};
+ghost use Rattle.delf_model.specs.State.{State, step, owner, judged as judgement_of, birth_of, is_job, first_of_two, end_cause, key_taken};
 ghost use Rattle.delf_model.specs.Legal.{is_legal};
 ghost use Rattle.job_table.specs.Table.{IsTableOf, IsGraphOf, MayApply, owner_among, owned_among};
 ghost use Rattle.job_table.specs.Notes.{noted, noted_start, noted_restore, noted_purge, noted_item, noted_put, with_seat, weight_of, item_weight as weight_of_item, put_weight as weight_of_put, condemns_before, takes_last};
@@ -88,16 +89,8 @@ impl JobTable {
         ensures held { self.new.held ≡ self.old.held }
         ensures spare { self.new.spare + 1 ≡ self.old.spare }
     {
-        let Some(row) = graph.edge(*key) else {
-            unreachable!();
-        };
-        let item = Item::Edge {
-            job,
-            row,
-            from_birth: birth(graph, row.key.from),
-            to_birth: birth(graph, row.key.to),
-        };
-        if self.owner(key.to).is_none() && condemns(graph, rules, key) {
+        let item = cut_item(graph, job, key);
+        if self.passes(graph, rules, key) {
             self.note_passing(entry.moment, job, item, key.to);
             return;
         }
@@ -112,10 +105,10 @@ impl JobTable {
         ensures held { self.new.held ≡ self.old.held }
         ensures spare { self.new.spare + 1 ≡ self.old.spare }
     {
-        let Some(row) = graph.object(id) else {
-            unreachable!();
-        };
-        self.note_erase(entry.moment, job, &row, id);
+        match graph.object(id) {
+            Some(row) => self.note_erase(entry.moment, job, &row, id),
+            None => unreachable!(),
+        }
     }
 
     fn apply_put<G: GraphStore>(&mut self, graph: &G, rules: &Rules, entry: &Entry, job: Job, i: u32)
@@ -126,11 +119,13 @@ impl JobTable {
         ensures held { self.new.held ≡ self.old.held }
         ensures spare { self.new.spare + 1 ≡ self.old.spare }
     {
-        let Some(kept) = self.items.get(i) else {
-            unreachable!();
-        };
-        let cause = self.judged(graph, &kept.item);
-        self.note_put(entry.moment, i, &kept.item, cause);
+        match self.item_at(i) {
+            Some(item) => {
+                let cause = self.judged(graph, &item);
+                self.note_put(entry.moment, i, &item, cause);
+            }
+            None => unreachable!(),
+        }
     }
 
     fn note(&mut self, moment: Moment, seat: u32, more: u32)
@@ -246,6 +241,16 @@ impl JobTable {
         self.spare -= 1;
     }
 
+    /// Whether a cut of this edge condemns its target, which has no owner.
+    fn passes<G: GraphStore>(&self, graph: &G, rules: &Rules, key: &EdgeKey) -> bool
+        ensures { (s : State) → IsTableOf s self.now → result ≡ (is_none (owner s key.now.to) && condemns_before rules.now (G.counts graph.now) (G.graph graph.now) key.now) }
+    {
+        match self.owner(key.to) {
+            Some(_) => false,
+            None => condemns(graph, rules, key),
+        }
+    }
+
     /// The judgement of a put of this item: none where its row is put back, else the cause for which it is listed.
     fn judged<G: GraphStore>(&self, graph: &G, item: &Item) -> Option<Cause>
         ensures { (s : State) → IsTableOf s self.now → G.graph graph.now ≡ s.graph → result ≡ judgement_of s item.now }
@@ -347,6 +352,28 @@ fn takes_last_reference<G: GraphStore>(graph: &G, rules: &Rules, key: &EdgeKey) 
             EdgeRule::Refcount => graph.ref_count(key.to) == 1,
         },
         None => false,
+    }
+}
+
+/// The item that a cut logs.
+fn cut_item<G: GraphStore>(graph: &G, job: Job, key: &EdgeKey) -> Item
+    requires { IsTrue (edge_stands (G.graph graph.now) key.now) }
+    ensures { (row : EdgeRow) → edge_at (G.graph graph.now) key.now ≡ Some row → result ≡ Item.Edge job row (birth_of (G.graph graph.now) row.key.from) (birth_of (G.graph graph.now) row.key.to) }
+{
+    match graph.edge(*key) {
+        Some(row) => edge_item(graph, job, &row),
+        None => unreachable!(),
+    }
+}
+
+fn edge_item<G: GraphStore>(graph: &G, job: Job, row: &EdgeRow) -> Item
+    ensures { result ≡ Item.Edge job row.now (birth_of (G.graph graph.now) row.now.key.from) (birth_of (G.graph graph.now) row.now.key.to) }
+{
+    Item::Edge {
+        job,
+        row: *row,
+        from_birth: birth(graph, row.key.from),
+        to_birth: birth(graph, row.key.to),
     }
 }
 

@@ -1,5 +1,6 @@
 ghost use Rattle.std.specs.Prelude.{◌≡◌, ◌+◌, ◌<◌, ◌≤◌, ◌^◌, ◌++◌, ◌∷◌, [], true, OnOk, length};
 ghost use Rattle.delf_model.specs.Order.{is_held, erases_same as is_same_row};
+ghost use Rattle.std.specs.List.{position};
 ghost use Rattle.job_table.specs.Table.{given_up};
 
 use delf_model::What;
@@ -63,13 +64,20 @@ impl Claims {
         ensures list { self.new.list ≡ given_up step.now self.old.list }
         ensures spare { self.old.spare ≤ self.new.spare }
     {
-        for i in 0..self.steps.len() {
-            if erases_same(step, &self.steps[i]) {
+        match place(&self.steps, step) {
+            Some(i) => {
                 self.steps.remove(i);
-                return;
             }
+            None => {}
         }
     }
+}
+
+/// The place of the first step that erases the same row.
+fn place(steps: &[What], step: &What) -> Option<usize>
+    ensures { result ≡ position (is_same_row step.now) steps.now }
+{
+    steps.iter().position(|other| erases_same(step, other))
 }
 
 /// Whether two steps erase the same row, whichever job they name.

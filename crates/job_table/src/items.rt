@@ -1,4 +1,4 @@
-ghost use Rattle.std.specs.Prelude.{◌≡◌, ◌+◌, ◌<◌, ◌≤◌, ◌^◌, ◌++◌, ◌∷◌, [], OnOk, length, slice_get, option_map, count_by, sum_by};
+ghost use Rattle.std.specs.Prelude.{◌≡◌, ◌+◌, ◌<◌, ◌≤◌, ◌^◌, ◌++◌, ◌∷◌, [], OnOk, length, slice_get, option_map, count_by, sum_by, cond, is_some, ◌-◌};
 ghost use Rattle.job_table.specs.Parts.{logged_of, handled_of};
 ghost use Rattle.delf_model.specs.State.{unhandled, handled_at, job_of as job_of_item, is_object_item};
 ghost use Rattle.delf_model.specs.Report.{is_of_job, is_object_of, is_edge_of, is_put_of, is_listed_of, listed_from, was_put as was_put_back, was_listed as was_listed_so};
@@ -84,6 +84,7 @@ impl Items {
 
     pub fn handle(&mut self, i: u32, how: Handling)
         ensures list { self.new.list ≡ handled_at self.old.list i (handled_of how) }
+        ensures len { length self.new.list ≡ length self.old.list }
         ensures spare { self.new.spare ≡ self.old.spare }
     {
         let i = i as usize;
@@ -136,7 +137,8 @@ impl Items {
     {
         let mut sum = 0;
         for kept in &self.items {
-            sum += weight(job, kept);
+            let more = weight(job, kept);
+            sum += more;
         }
         sum
     }
@@ -149,12 +151,11 @@ impl Items {
         let mut i = self.items.len();
         while i > 0 {
             i -= 1;
-            if let Some(listed) = listing(job, i as u32, &self.items[i]) {
-                if left == 0 {
-                    return Some(listed);
-                }
-                left -= 1;
+            let found = listing(job, i as u32, &self.items[i]);
+            if found.is_some() && left == 0 {
+                return found;
             }
+            left = passed(left, &found);
         }
         None
     }
@@ -193,6 +194,16 @@ fn was_listed(handled: &Option<Handling>) -> bool
     match handled {
         Some(how) => how.cause.is_some(),
         None => false,
+    }
+}
+
+/// How many lines are still to be passed after one that may be there.
+fn passed(left: u32, found: &Option<Listed>) -> u32
+    ensures { result ≡ cond (is_some found.now) (left - 1) left }
+{
+    match found {
+        Some(_) => left.saturating_sub(1),
+        None => left,
     }
 }
 

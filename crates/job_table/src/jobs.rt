@@ -1,6 +1,8 @@
-ghost use Rattle.std.specs.Prelude.{◌≡◌, ◌+◌, ◌<◌, ◌≤◌, ◌^◌, ◌++◌, ◌∷◌, [], OnOk, length, slice_get, map, option_map};
-ghost use Rattle.job_table.specs.Parts.{row_of};
-ghost use Rattle.delf_model.specs.State.{job_row, find_job, new_job, restored_at, purged_if, erased_at};
+ghost use Rattle.std.specs.Prelude.{◌≡◌, ◌+◌, ◌<◌, ◌≤◌, ◌^◌, ◌++◌, ◌∷◌, [], OnOk, length, slice_get, option_map, cond, Some};
+ghost use Rattle.std.specs.List.{position};
+ghost use Rattle.job_table.specs.Parts.{row_of, changed_first, is_start};
+ghost use Rattle.delf_model.specs.State.{job_row, find_job, new_job, starts_at, restored_at, purged_if, erased_at};
+ghost use Rattle.delf_model.specs.State.{same_name as is_same_name};
 
 use delf_model::{Job, JobName, Moment, ObjectId};
 use std::alloc::{AllocError, Global};
@@ -78,12 +80,10 @@ impl Jobs {
     pub fn row(&self, job: Job) -> Option<Row>
         ensures { option_map row_of result ≡ job_row self.now.list job }
     {
-        for row in &self.rows {
-            if row.start.0 == job.0 {
-                return Some(*row);
-            }
+        match place(&self.rows, job) {
+            Some(i) => Some(self.rows[i]),
+            None => None,
         }
-        None
     }
 
     pub fn find(&self, name: JobName) -> Option<Job>
@@ -91,48 +91,61 @@ impl Jobs {
     {
         let mut found = None;
         for row in &self.rows {
-            if same_name(&row.name, &name) {
-                found = Some(row.start);
-            }
+            found = later(found, row, &name);
         }
         found
     }
 
-    pub fn restore(&mut self, job: Job, position: u32)
-        ensures list { self.new.list ≡ map (restored_at job position) self.old.list }
+    pub fn restore(&mut self, job: Job, at: u32)
+        ensures list { self.new.list ≡ changed_first (starts_at job) (restored_at job at) self.old.list }
+        ensures len { length self.new.list ≡ length self.old.list }
         ensures spare { self.new.spare ≡ self.old.spare }
     {
-        for row in self.rows.iter_mut() {
-            if row.start.0 == job.0 {
-                row.restored = Some(position);
-            }
+        match place(&self.rows, job) {
+            Some(i) => self.rows[i].restored = Some(at),
+            None => {}
         }
     }
 
     pub fn purge(&mut self, job: Job)
-        ensures list { self.new.list ≡ map (purged_if job) self.old.list }
+        ensures list { self.new.list ≡ changed_first (starts_at job) (purged_if job) self.old.list }
+        ensures len { length self.new.list ≡ length self.old.list }
         ensures spare { self.new.spare ≡ self.old.spare }
     {
-        for row in self.rows.iter_mut() {
-            if row.start.0 == job.0 {
-                row.purged = true;
-            }
+        match place(&self.rows, job) {
+            Some(i) => self.rows[i].purged = true,
+            None => {}
         }
     }
 
     pub fn erase(&mut self, job: Job, moment: Moment)
-        ensures list { self.new.list ≡ map (erased_at job moment) self.old.list }
+        ensures list { self.new.list ≡ changed_first (starts_at job) (erased_at job moment) self.old.list }
+        ensures len { length self.new.list ≡ length self.old.list }
         ensures spare { self.new.spare ≡ self.old.spare }
     {
-        for row in self.rows.iter_mut() {
-            if row.start.0 == job.0 {
-                row.last = Some(moment);
-            }
+        match place(&self.rows, job) {
+            Some(i) => self.rows[i].last = Some(moment),
+            None => {}
         }
     }
 }
 
-ghost use Rattle.delf_model.specs.State.{same_name as is_same_name};
+/// The job of this row where it has the name, else what was found before.
+fn later(found: Option<Job>, row: &Row, name: &JobName) -> Option<Job>
+    ensures { result ≡ cond (is_same_name row.now.name name.now) (Some row.now.start) found }
+{
+    if same_name(&row.name, name) {
+        return Some(row.start);
+    }
+    found
+}
+
+/// The place of the job that starts at this position.
+fn place(rows: &[Row], job: Job) -> Option<usize>
+    ensures { result ≡ position (is_start job) rows.now }
+{
+    rows.iter().position(|row| row.start.0 == job.0)
+}
 
 fn same_name(a: &JobName, b: &JobName) -> bool
     ensures { result ≡ is_same_name a.now b.now }

@@ -1,4 +1,6 @@
 ghost use Rattle.std.specs.Prelude.{◌≡◌, ◌+◌, ◌<◌, ◌≤◌, ◌^◌, ◌++◌, ◌∷◌, [], None, cond, nat_eq, OnOk, length, ℕ};
+ghost use Rattle.std.specs.List.{position};
+ghost use Rattle.job_table.specs.Parts.{is_owned_id};
 ghost use Rattle.job_table.specs.Table.{owner_among, owned_among};
 ghost use Rattle.delf_model.specs.State.{is_job};
 
@@ -53,12 +55,10 @@ impl Owners {
     pub fn owner(&self, id: ObjectId) -> Option<Job>
         ensures { result ≡ owner_among self.now.list id }
     {
-        for pair in &self.pairs {
-            if pair.id.get() == id.get() {
-                return Some(pair.job);
-            }
+        match place(&self.pairs, id) {
+            Some(i) => Some(self.pairs[i].job),
+            None => None,
         }
-        None
     }
 
     pub fn own(&mut self, id: ObjectId, job: Job)
@@ -77,11 +77,11 @@ impl Owners {
         ensures spare { self.old.spare ≤ self.new.spare }
         ensures len { length self.new.list ≤ length self.old.list }
     {
-        for i in 0..self.pairs.len() {
-            if self.pairs[i].id.get() == id.get() {
+        match place(&self.pairs, id) {
+            Some(i) => {
                 self.pairs.remove(i);
-                return;
             }
+            None => {}
         }
     }
 
@@ -91,4 +91,11 @@ impl Owners {
     {
         self.pairs.iter().filter(|pair| pair.job.0 == job.0).count() as u32
     }
+}
+
+/// The place of an owned id.
+fn place(pairs: &[Owned], id: ObjectId) -> Option<usize>
+    ensures { result ≡ position (is_owned_id id) pairs.now }
+{
+    pairs.iter().position(|pair| pair.id.get() == id.get())
 }

@@ -1,4 +1,4 @@
-ghost use Rattle.std.specs.Prelude.{◌≡◌, ◌+◌, ◌<◌, ◌≤◌, ◌^◌, ◌++◌, ◌∷◌, [], nat_eq, OnOk, length, count_by};
+ghost use Rattle.std.specs.Prelude.{◌≡◌, ◌+◌, ◌<◌, ◌≤◌, ◌^◌, ◌++◌, ◌∷◌, [], nat_eq, OnOk, length, count_by, max};
 ghost use Rattle.job_table.specs.Table.{greatest};
 
 use std::alloc::{AllocError, Global};
@@ -59,8 +59,14 @@ impl Seats {
     {
         let mut top = 0;
         for seat in &self.seats {
-            top = top.max(*seat);
+            top = greater(top, *seat);
         }
         top
     }
+}
+
+fn greater(a: u32, b: u32) -> u32
+    ensures { result ≡ max a b }
+{
+    if a < b { b } else { a }
 }

@@ -1,11 +1,11 @@
-ghost use Rattle.std.specs.Prelude.{◌≡◌, ◌+◌, ◌-◌, ◌<◌, ◌≤◌, ◌++◌, ◌∷◌, [], ℕ, true, false, OnOk, length, nat_eq, IsSome};
+ghost use Rattle.std.specs.Prelude.{◌≡◌, ◌+◌, ◌-◌, ◌<◌, ◌≤◌, ◌++◌, ◌∷◌, [], ℕ, true, false, OnOk, length, nat_eq, count_by, Some};
 ghost use Rattle.delf_model.specs.RuleSet.{RuleSet};
 ghost use Rattle.delf_model.specs.Graph.{Graph};
-ghost use Rattle.delf_model.specs.State.{State, start, step, owner as owner_of, owned as owned_of, find_job};
+ghost use Rattle.delf_model.specs.State.{State, start, step, owner as owner_of, owned as owned_of, find_job, job_row, left};
 ghost use Rattle.delf_model.specs.Legal.{used, owed, seat_entries as entries_of_seat, is_legal, greatest_moment};
 ghost use Rattle.delf_model.specs.Order.{is_held as is_held_in};
 ghost use Rattle.job_table.specs.Parts.{row_of};
-ghost use Rattle.job_table.specs.Items.{restored_status};
+ghost use Rattle.job_table.specs.Items.{restored_status, is_unhandled_of};
 ghost use Rattle.delf_model.specs.Report.{status_of_row, job_line, status as status_of_job, job_at as line_at, listed_at as listed_of, items_of};
 ghost use Rattle.job_table.specs.Table.{IsTableOf, IsGraphOf, MayApply, item_at as item_of, restored_of, last_erasure as last_erasure_of, top_seat as greatest_seat, is_erasing, given_up};
 ghost use Rattle.job_table.specs.Next.{IsSerial, IsFreeNext};
@@ -256,7 +256,7 @@ impl JobTable {
 
     /// The status of the job with this row.
     pub(crate) fn status_of(&self, row: &Row) -> Status
-        ensures { (s : State) → IsTableOf s self.now → result ≡ status_of_row s (row_of row.now) }
+        ensures { (s : State) → IsTableOf s self.now → job_row s.jobs row.now.start ≡ Some (row_of row.now) → result ≡ status_of_row s (row_of row.now) }
     {
         let owned = self.owners.owned(row.start);
         if row.purged {
@@ -276,8 +276,7 @@ impl JobTable {
     }
 
     fn restored_status(&self, row: &Row) -> Status
-        requires { IsSome row.now.restored }
-        ensures { (s : State) → IsTableOf s self.now → result ≡ restored_status s (row_of row.now) }
+        ensures { (s : State) → IsTableOf s self.now → left s row.now.start ≡ count_by (is_unhandled_of row.now.start) s.items → result ≡ restored_status s (row_of row.now) }
     {
         let left = self.items.unhandled(row.start);
         if left > 0 {
@@ -290,7 +289,7 @@ impl JobTable {
     }
 
     fn line_of(&self, row: &Row) -> JobLine
-        ensures { (s : State) → IsTableOf s self.now → result ≡ job_line s (row_of row.now) }
+        ensures { (s : State) → IsTableOf s self.now → job_row s.jobs row.now.start ≡ Some (row_of row.now) → result ≡ job_line s (row_of row.now) }
     {
         JobLine {
             job: row.start,
