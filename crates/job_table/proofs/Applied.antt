@@ -109,7 +109,7 @@ module _ (s : State) (e : Entry) (job : ℕ) (key : EdgeKey) (t : Table) (stored
   cut_legal : is_legal s (record { moment = e.moment; what = Cut job key.edge key.from key.to }) ≡ true
   cut_legal = legal_as s e (Cut job key.edge key.from key.to) what l
 
-  cut_found : CutFacts s e.moment job key.edge key.from key.to
+  pub cut_found : CutFacts s e.moment job key.edge key.from key.to
   cut_found = cut_facts s e.moment job key.edge key.from key.to cut_order h.keeps cut_legal
 
   pub cut_stored : edge_stands stored key ≡ true
@@ -158,7 +158,7 @@ module _ (s : State) (e : Entry) (job id : ℕ) (t : Table) (stored : Graph) (re
   erase_order : Ordered s.graph
   erase_order = subst (λ (g : Graph). Ordered g) i.graph o
 
-  erase_found : EraseFacts s job id
+  pub erase_found : EraseFacts s job id
   erase_found = erase_facts s e.moment job id erase_order h.keeps (legal_as s e (Erase job id) what l)
 
   pub erase_stored : object_at stored id ≡ Some erase_found.row
@@ -185,7 +185,7 @@ module _ (s : State) (e : Entry) (job n : ℕ) (t : Table) (stored : Graph) (ref
   put_order : Ordered s.graph
   put_order = subst (λ (g : Graph). Ordered g) i.graph o
 
-  put_found : PutFacts s job n
+  pub put_found : PutFacts s job n
   put_found = put_facts s e.moment job n (legal_as s e (Put job n) what l)
 
   pub put_item_is : item_at s n ≡ Some put_found.logged.item

@@ -2,6 +2,11 @@ use Rattle.std.proofs.Common.{◌≡◌, ℕ, zero, suc, ◌+◌, ◌<◌, ◌�
 use Rattle.std.specs.Prelude.{nat_eq, nat_lt, is_none, count_by, sum_by, slice_get, find}
 use Rattle.std.proofs.lemmas.Bool.Decides.{nat_tests}
 use Rattle.std.proofs.lemmas.Grind.{common_steps}
+use Rattle.std.specs.Prelude.{option_and_then}
+use Rattle.std.specs.Option.{unwrap_or}
+use Rattle.delf_model.specs.declared.call.JobLine.{JobLine}
+use Rattle.delf_model.specs.Legal.{last_erasure_or_zero}
+use Rattle.delf_model.specs.Report.{erased_count, cut_count, status_of_row, job_line}
 use Rattle.delf_model.specs.declared.call.Status.{Status}
 use Rattle.delf_model.specs.declared.call.Status.TheVariants.{Pending, Done, Restoring, Restored, Purged}
 use Rattle.delf_model.specs.State.{State, JobRow, Logged, job_of, left, is_open_of, is_restored, is_restored_row, job_row, starts_at}
@@ -101,3 +106,21 @@ pub restored_now : (l n p q p' q' : ℕ) → n ≡ l → n ≤ 0 → p ≡ p' �
 restored_now l n p q p' q' e h a b =
     let t : nat_lt 0 l ≡ false = grind (arith, nat_tests, e, h) in
     ap (λ (k : ℕ). Restored k q) a ∙ ap (λ (k : ℕ). Restored p' k) b ∙ sym (ap (λ (b : Bool). cond b (Restoring l) (Restored p' q')) t)
+
+pub last_is : (o : Option ℕ) → unwrap_or o 0 ≡ last_erasure_or_zero o
+last_is None = refl
+last_is (Some m) = refl
+
+pub some_is : {A : Type 0} (o : Option A) (a : A) → o ≡ Some a → is_some o ≡ true
+some_is o a e = ap is_some e
+
+-- the line of a job, by its parts
+pub line_is : (s : State) (row : JobRow) (erased cut : ℕ) (status : Status) → erased ≡ erased_count s row.start → cut ≡ cut_count s row.start →
+    status ≡ status_of_row s row →
+    record { job = row.start; name = row.name; root = row.root; erased = erased; cut = cut; status = status } ≡ job_line s row
+line_is s row erased cut status a b d =
+    ap (λ (k : ℕ). line k cut status) a ∙ ap (λ (k : ℕ). line (erased_count s row.start) k status) b
+    ∙ ap (λ (v : Status). line (erased_count s row.start) (cut_count s row.start) v) d
+  where
+    line : ℕ → ℕ → Status → JobLine
+    line e c v = record { job = row.start; name = row.name; root = row.root; erased = e; cut = c; status = v }

@@ -70,3 +70,15 @@ kept_at kept items now spare i got v g =
 
 pub kept_len : (kept : List Kept) (now : ItemPart) (spare : ℕ) → record { list = map logged_of kept; spare = spare } ≡ now → length now.list ≡ length kept
 kept_len kept now spare v = ap (λ (n : ItemPart). length n.list) (sym v) ∙ map_length logged_of kept
+
+-- one item further down
+pub listed_step : (kept : List Kept) (now : ItemPart) (spare job n left : ℕ) (got : Kept) (found answer : Option Listed) → record { list = map logged_of kept; spare = spare } ≡ now →
+    0 < n → n ≤ length now.list → got ≡ get_or kept (n - 1) got → found ≡ listing_of job (n - 1) (logged_of got) →
+    slice_get (listed_from job 0 (take n now.list)) left ≡ answer →
+    slice_get (list_of found ++ listed_from job 0 (take (n - 1) now.list)) left ≡ answer
+listed_step kept now spare job n left got found answer v some within g f e =
+    let up : n ≡ (n - 1) + 1 = omega arith in
+    let short : n - 1 < length now.list = omega arith in
+    ap (λ (o : Option Listed). slice_get (list_of o ++ listed_from job 0 (take (n - 1) now.list)) left) f
+    ∙ sym (ap (λ (l : List Listed). slice_get l left) (listed_more job (n - 1) now.list (logged_of got) short (kept_at kept kept now spare (n - 1) got v g)))
+    ∙ ap (λ (k : ℕ). slice_get (listed_from job 0 (take k now.list)) left) (sym up) ∙ e

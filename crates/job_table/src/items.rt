@@ -1,4 +1,4 @@
-ghost use Rattle.std.specs.Prelude.{◌≡◌, ◌+◌, ◌<◌, ◌≤◌, ◌^◌, ◌++◌, ◌∷◌, [], OnOk, length, slice_get, option_map, count_by, sum_by, cond, is_some, ◌-◌};
+ghost use Rattle.std.specs.Prelude.{◌≡◌, ◌+◌, ◌<◌, ◌≤◌, ◌^◌, ◌++◌, ◌∷◌, [], OnOk, length, slice_get, option_map, count_by, sum_by, cond, is_some, nat_eq, ◌-◌, ◌&&◌};
 ghost use Rattle.job_table.specs.Parts.{logged_of, handled_of};
 ghost use Rattle.delf_model.specs.State.{unhandled, handled_at, job_of as job_of_item, is_object_item};
 ghost use Rattle.delf_model.specs.Report.{is_of_job, is_object_of, is_edge_of, is_put_of, is_listed_of, listed_from, was_put as was_put_back, was_listed as was_listed_so};
@@ -152,7 +152,7 @@ impl Items {
         while i > 0 {
             i -= 1;
             let found = listing(job, i as u32, &self.items[i]);
-            if found.is_some() && left == 0 {
+            if is_asked(&found, left) {
                 return found;
             }
             left = passed(left, &found);
@@ -193,6 +193,16 @@ fn was_listed(handled: &Option<Handling>) -> bool
 {
     match handled {
         Some(how) => how.cause.is_some(),
+        None => false,
+    }
+}
+
+/// Whether a line that may be there is the one asked for.
+fn is_asked(found: &Option<Listed>, left: u32) -> bool
+    ensures { result ≡ (is_some found.now && nat_eq left 0) }
+{
+    match found {
+        Some(_) => left == 0,
         None => false,
     }
 }
