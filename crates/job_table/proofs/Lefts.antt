@@ -6,10 +6,12 @@ use Rattle.std.specs.Prelude.{option_and_then}
 use Rattle.std.specs.Option.{unwrap_or}
 use Rattle.delf_model.specs.declared.call.JobLine.{JobLine}
 use Rattle.delf_model.specs.Legal.{last_erasure_or_zero}
-use Rattle.delf_model.specs.Report.{erased_count, cut_count, status_of_row, job_line}
+use Rattle.delf_model.specs.Report.{erased_count, cut_count, status_of_row, job_line, status, status_or_none, line_of_row, job_at}
+use Rattle.delf_model.specs.declared.ids.JobName.{JobName}
+use Rattle.job_table.proofs.Rows.{job_row_is}
 use Rattle.delf_model.specs.declared.call.Status.{Status}
 use Rattle.delf_model.specs.declared.call.Status.TheVariants.{Pending, Done, Restoring, Restored, Purged}
-use Rattle.delf_model.specs.State.{State, JobRow, Logged, job_of, left, is_open_of, is_restored, is_restored_row, job_row, starts_at}
+use Rattle.delf_model.specs.State.{State, JobRow, Logged, job_of, left, is_open_of, is_restored, is_restored_row, job_row, starts_at, find_job}
 use Rattle.job_table.specs.Table.{starts_rise}
 use Rattle.job_table.specs.Items.{is_unhandled_of}
 use Rattle.job_table.proofs.Lookups.{both}
@@ -124,3 +126,22 @@ line_is s row erased cut status a b d =
   where
     line : ℕ → ℕ → Status → JobLine
     line e c v = record { job = row.start; name = row.name; root = row.root; erased = e; cut = c; status = v }
+
+-- the status of the job that a name means
+pub status_row : (s : State) (jobs : List JobRow) (job : ℕ) (row : JobRow) → jobs ≡ s.jobs → Some row ≡ job_row jobs job → job_row s.jobs row.start ≡ Some row
+status_row s jobs job row e r =
+    let found : job_row s.jobs job ≡ Some row = ap (λ (l : List JobRow). job_row l job) (sym e) ∙ sym r in
+    ap (job_row s.jobs) (job_row_is job row s.jobs found) ∙ found
+
+pub status_is : (s : State) (jobs : List JobRow) (name : JobName) (job : ℕ) (row : JobRow) → jobs ≡ s.jobs → Some job ≡ find_job jobs name → Some row ≡ job_row jobs job →
+    status_of_row s row ≡ status s name
+status_is s jobs name job row e f r =
+    let found : find_job s.jobs name ≡ Some job = ap (λ (l : List JobRow). find_job l name) (sym e) ∙ sym f in
+    let there : job_row s.jobs job ≡ Some row = ap (λ (l : List JobRow). job_row l job) (sym e) ∙ sym r in
+    sym (ap (λ (o : Option ℕ). status_or_none s (option_and_then (job_row s.jobs) o)) found ∙ ap (status_or_none s) there)
+
+pub line_row : (s : State) (jobs : List JobRow) (i : ℕ) (row : JobRow) → jobs ≡ s.jobs → starts_rise 0 s.len s.jobs ≡ true → Some row ≡ slice_get jobs i → job_row s.jobs row.start ≡ Some row
+line_row s jobs i row e k r = row_at_place 0 s.len i row s.jobs k (ap (λ (l : List JobRow). slice_get l i) (sym e) ∙ sym r)
+
+pub line_at_is : (s : State) (jobs : List JobRow) (i : ℕ) (row : JobRow) → jobs ≡ s.jobs → Some row ≡ slice_get jobs i → Some (job_line s row) ≡ job_at s i
+line_at_is s jobs i row e r = sym (ap (line_of_row s) (ap (λ (l : List JobRow). slice_get l i) (sym e) ∙ sym r))

@@ -36,7 +36,7 @@ listed_push job j [] y =
 listed_push job j (x ∷ xs) y =
     let same : (j + 1) + length xs ≡ j + length (x ∷ xs) = omega arith in
     ap (λ (l : List Listed). l ++ cond (is_of_job job x) (listed_by j x.item x.handled) []) (listed_push job (j + 1) xs y ∙ ap (λ (n : ℕ). list_of (listing_of job n y) ++ listed_from job (j + 1) xs) same)
-    ∙ append_assoc
+    ∙ append_assoc (list_of (listing_of job (j + length (x ∷ xs)) y)) (listed_from job (j + 1) xs) (cond (is_of_job job x) (listed_by j x.item x.handled) [])
 
 length_take : {A : Type 0} (xs : List A) (i : ℕ) → i ≤ length xs → length (take i xs) ≡ i
 length_take xs zero l = refl

@@ -13,8 +13,8 @@ note_erase-requires-clause-owed g c =
         } in
     erase_enough m.0 c.args.entry.now c.args.job c.args.id c.args.self.now _ _ _ c.requires.is m.1 m.2 o m.3
 
-pub returns-in-Some-clause-table : goal.returns-in-Some-clause-table
-returns-in-Some-clause-table g c =
+pub returns-clause-table : goal.returns-clause-table
+returns-clause-table g c =
     λ s h i l.
     let o : Ordered (g.G.GraphStore.graph c.args.graph.now) = record {
           objects = g.met.G.GraphStore.objects_in_order c.args.graph.now;
@@ -23,8 +23,8 @@ returns-in-Some-clause-table g c =
         } in
     erase_applied s c.args.entry.now c.args.job c.args.id c.args.self.now _ _ _ c.requires.is h i o l _ c.in-Some.row c.in-Some.ensures c.note_erase.ensures.same c.note_erase.ensures.owners c.note_erase.ensures.owned
 
-pub prove-unreachable-requires : goal.prove-unreachable-requires
-prove-unreachable-requires g c =
+pub unreachable-requires : goal.unreachable-requires
+unreachable-requires g c =
     let m = c.requires.legal in
     let o : Ordered (g.G.GraphStore.graph c.args.graph.now) = record {
           objects = g.met.G.GraphStore.objects_in_order c.args.graph.now;
