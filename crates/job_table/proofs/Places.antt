@@ -417,3 +417,11 @@ weight_more kept items now spare i sum w got f v e l g h n =
     let a : sum_by f (take (i + 1) now.list) ≡ sum_by f (take (i + 1) (map logged_of items)) = ap (λ (xs : List Logged). sum_by f (take (i + 1) xs)) list in
     let b : sum_by f now.list ≡ sum_by f (map logged_of items) = ap (sum_by f) list in
     (omega (arith, was, more, here, n, a), omega (arith, was, all, here, n, b))
+
+pub given_up_len : (step : What) (xs : List What) → length (given_up step xs) ≤ length xs
+given_up_len step [] = omega arith
+given_up_len step (x ∷ xs) = go (erases_same step x) (given_up_len step xs)
+  where
+    go : (b : Bool) → length (given_up step xs) ≤ length xs → length (cond b xs (x ∷ given_up step xs)) ≤ length (x ∷ xs)
+    go true h = omega arith
+    go false h = omega (arith, h)
