@@ -1,1 +1,15 @@
+pub mod CheckedLemmas
+pub mod Ends
+pub mod Good
+pub mod Graphs
+pub mod Jobs
+pub mod Leaves
+pub mod Lines
+pub mod NumberLemmas
+pub mod Owners
+pub mod Places
+pub mod Plain
+pub mod Room
 pub mod RouteLemmas
+pub mod Runs
+pub mod Sums

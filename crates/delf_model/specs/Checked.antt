@@ -100,6 +100,11 @@ IsFirstRow n P row = (row < n) × P row × ((k : ℕ) → k < row → P k → �
 abbrev pub NoRow : ℕ → (ℕ → Type 0) → Type 0
 NoRow n P = (k : ℕ) → k < n → P k → ⊥
 
+-- the first of n rows at which P holds, or None where it holds at none
+abbrev pub IsFirstRowOrNone : Option ℕ → ℕ → (ℕ → Type 0) → Type 0
+IsFirstRowOrNone None n P = NoRow n P
+IsFirstRowOrNone (Some row) n P = IsFirstRow n P row
+
 -- the name of this row stands in an earlier row too
 abbrev pub IsRepeated : List (List ℕ) → ℕ → Type 0
 IsRepeated names row = (k : ℕ) × (k < row) × (slice_get names k ≡ slice_get names row)
@@ -112,8 +117,22 @@ abbrev pub LacksTarget : RuleSet → ℕ → Type 0
 LacksTarget rules edge = length rules.objects ≤ target_of rules edge
 
 -- the edge type may condemn objects of a type that may not be condemned through an edge
-abbrev pub CannotTake : RuleSet → ℕ → Type 0
-CannotTake rules edge = IsTrue (condemns rules edge) × (takes rules (target_of rules edge) ≡ false)
+abbrev pub CondemnsUntaken : RuleSet → ℕ → Type 0
+CondemnsUntaken rules edge = IsTrue (condemns rules edge) × (takes rules (target_of rules edge) ≡ false)
+
+-- an end of the edge type has no number of a type
+abbrev pub LacksEnd : RuleSet → ℕ → Type 0
+LacksEnd rules edge = LacksSource rules edge ⊎ LacksTarget rules edge
+
+-- which end of the edge type lacks a type: its target where its source has one
+abbrev pub LacksNamedEnd : RuleSet → ℕ → Bool → Type 0
+LacksNamedEnd rules edge false = LacksSource rules edge
+LacksNamedEnd rules edge true = LacksSource rules edge → ⊥
+
+-- the first edge type with an end that is no type, and which end that is
+abbrev pub IsFirstUndeclared : RuleSet → ℕ → Bool → Type 0
+IsFirstUndeclared rules row target =
+    IsFirstRow (length rules.edges) (LacksEnd rules) row × LacksNamedEnd rules row target
 
 -- the type is by_any and has no route
 abbrev pub LacksRoute : RuleSet → ℕ → Type 0

@@ -6,12 +6,11 @@ use Rattle.delf_model.specs.declared.rows.EdgeRow.{EdgeRow}
 use Rattle.delf_model.specs.declared.rows.Item.{Item}
 use Rattle.delf_model.specs.declared.rows.Item.TheVariants as item
 use Rattle.delf_model.specs.declared.entry.Entry.{Entry}
-use Rattle.delf_model.specs.declared.entry.Tag.{Tag}
 use Rattle.delf_model.specs.declared.entry.What.{What}
 use Rattle.delf_model.specs.declared.entry.What.TheVariants.{Create, Update, Link, Unlink, Delete, Restore, Expire, Cut, Erase, Put, Purge}
 use Rattle.delf_model.specs.RuleSet.{RuleSet, is_deep, is_refcount}
-use Rattle.delf_model.specs.Graph.{Graph, object_at, edge_at, edge_stands, stands, same_key, touches, has_refs, put_object, put_edge}
-use Rattle.delf_model.specs.State.{State, Logged, JobRow, after, owner, job_row, birth_of, job_of}
+use Rattle.delf_model.specs.Graph.{Graph, object_at, edge_stands, stands, same_key, touches, has_refs, put_object, put_edge}
+use Rattle.delf_model.specs.State.{State, Logged, JobRow, after, owner, job_row, job_of}
 
 abbrev pub has : List ℕ → ℕ → Bool
 has ids id = list_any (λ x. nat_eq x id) ids
@@ -21,10 +20,10 @@ has ids id = list_any (λ x. nat_eq x id) ids
 pub record IsClosed (rules : RuleSet) (g : Graph) (ids : List ℕ) : Type 0 where
   pub objects : (id : ℕ) → has ids id ≡ true → is_some (object_at g id) ≡ true
   pub deep : (key : EdgeKey) → edge_stands g key ≡ true → is_deep rules key.edge ≡ true →
-    has ids key.from ≡ true → has ids key.to ≡ true
+      has ids key.from ≡ true → has ids key.to ≡ true
   pub counted : (id : ℕ) → is_some (object_at g id) ≡ true → has_refs rules g id ≡ true →
-    ((key : EdgeKey) → edge_stands g key ≡ true → is_refcount rules key.edge ≡ true → key.to ≡ id → has ids key.from ≡ true) →
-    has ids id ≡ true
+      ((key : EdgeKey) → edge_stands g key ≡ true → is_refcount rules key.edge ≡ true → key.to ≡ id → has ids key.from ≡ true) →
+      has ids id ≡ true
 
 -- the closure of a root holds an object exactly where every closed list that holds the root holds it
 abbrev pub Closure : RuleSet → Graph → ℕ → ℕ → Type 0
@@ -85,11 +84,11 @@ pub record Calm (rules : RuleSet) (history : List Entry) (job : ℕ) (root : ℕ
   pub begun : root_of (after rules (take (job + 1) history)) job ≡ Some root
   pub held : has ids root ≡ true
   pub free : (id : ℕ) (other : ℕ) → has ids id ≡ true →
-    owner (after rules (take (job + 1) history)) id ≡ Some other → id ≡ root
+      owner (after rules (take (job + 1) history)) id ≡ Some other → id ≡ root
   pub whole : (key : EdgeKey) → edge_stands (after rules (take (job + 1) history)).graph key ≡ true →
-    has ids key.from ≡ has ids key.to
+      has ids key.from ≡ has ids key.to
   pub quiet : (p : ℕ) (e : Entry) → job < p → p < q → slice_get history p ≡ Some e →
-    LeavesAlone job ids (after rules (take p history)) e.what
+      LeavesAlone job ids (after rules (take p history)) e.what
 
 -- what a job took, by its items
 

@@ -1,3 +1,4 @@
+pub mod Broken
 pub mod Checked
 pub mod Closure
 pub mod Distances
@@ -11,3 +12,4 @@ pub mod RuleSet
 pub mod Sound
 pub mod State
 pub mod Store
+pub mod Worked

@@ -1,20 +1,17 @@
-use Rattle.std.specs.Prelude.{◌≡◌, ℕ, ◌+◌, ◌<◌, ◌≤◌, Bool, true, false, cond, ◌&&◌, ◌||◌, not, nat_eq, List, [], ◌∷◌, ◌++◌, Option, Some, None, is_some, is_none, length, slice_get, take, count_by, filter, ◌⊎◌}
-use Rattle.std.specs.List.{list_any}
-use Rattle.delf_model.specs.declared.rows.ObjectRow.{ObjectRow}
+use Rattle.std.specs.Prelude.{◌≡◌, ℕ, ◌+◌, ◌<◌, ◌≤◌, Bool, true, false, ◌||◌, nat_eq, List, Option, Some, None, is_some, length, slice_get, take, count_by}
 use Rattle.delf_model.specs.declared.rows.EdgeKey.{EdgeKey}
-use Rattle.delf_model.specs.declared.rows.EdgeRow.{EdgeRow}
 use Rattle.delf_model.specs.declared.rows.Item.{Item}
 use Rattle.delf_model.specs.declared.rows.Item.TheVariants as item
 use Rattle.delf_model.specs.declared.entry.Entry.{Entry}
 use Rattle.delf_model.specs.declared.entry.Tag.{Tag}
 use Rattle.delf_model.specs.declared.entry.What.{What}
-use Rattle.delf_model.specs.declared.entry.What.TheVariants.{Create, Update, Link, Unlink, Delete, Restore, Expire, Cut, Erase, Put, Purge}
+use Rattle.delf_model.specs.declared.entry.What.TheVariants.{Unlink, Delete, Restore, Cut, Erase, Put}
 use Rattle.delf_model.specs.RuleSet.{RuleSet}
 use Rattle.delf_model.specs.Graph.{Graph, object_at, edge_at, edge_stands, stands, touches}
-use Rattle.delf_model.specs.State.{State, Logged, Handled, JobRow, after, owner, owned, left, is_owned_by, key_of, job_of, judged, is_object_item, is_restored, job_row}
+use Rattle.delf_model.specs.State.{State, Logged, Handled, after, owner, owned, left, is_owned_by, job_of, judged, is_restored, job_row}
 use Rattle.delf_model.specs.Legal.{EachStep, room, room_limit, is_end_item}
 use Rattle.delf_model.specs.Order.{is_step, is_legal_step, first_step}
-use Rattle.delf_model.specs.Report.{was_listed, was_put, is_of_job}
+use Rattle.delf_model.specs.Report.{was_listed}
 use Rattle.delf_model.specs.Payloads.{is_needed}
 use Rattle.delf_model.specs.Closure.{has, Closure, Calm, has_erased, has_cut, items_of_job, union, root_of, is_step_of}
 
@@ -30,7 +27,7 @@ ObjectsLeave before what now =
 pub data TakesEdgeAway (s : State) (key : EdgeKey) (what : What) : Type 0 where
   ByUnlink : (tag : Tag) → (name : ℕ) → what ≡ Unlink tag key.edge key.from key.to name → TakesEdgeAway s key what
   ByCut : (job : ℕ) → what ≡ Cut job key.edge key.from key.to →
-    (is_owned_by s job key.from || is_owned_by s job key.to) ≡ true → TakesEdgeAway s key what
+      (is_owned_by s job key.from || is_owned_by s job key.to) ≡ true → TakesEdgeAway s key what
 
 -- an edge that leaves is unlinked, or cut by a job that owns an end of it
 abbrev pub EdgesLeave : State → What → State → Type 0
@@ -67,10 +64,10 @@ pub record ErasedReached (rules : RuleSet) (history : List Entry) (job : ℕ) : 
 -- and it owns nothing from then on
 pub record DoneErasesReached (rules : RuleSet) (history : List Entry) : Type 0 where
   pub reached : (job : ℕ) → is_some (job_row (after rules history).jobs job) ≡ true →
-    owned (after rules history) job ≡ 0 → ErasedReached rules history job
+      owned (after rules history) job ≡ 0 → ErasedReached rules history job
   pub for_good : (job p : ℕ) → p ≤ length history →
-    is_some (job_row (after rules (take p history)).jobs job) ≡ true → owned (after rules (take p history)) job ≡ 0 →
-    (id : ℕ) → is_owned_by (after rules history) job id ≡ false
+      is_some (job_row (after rules (take p history)).jobs job) ≡ true → owned (after rules (take p history)) job ≡ 0 →
+      (id : ℕ) → is_owned_by (after rules history) job id ≡ false
 
 -- the order of steps does not matter
 
@@ -85,17 +82,17 @@ pub record TookClosure (rules : RuleSet) (g : Graph) (root job : ℕ) (s : State
   pub erased : (id : ℕ) → has_erased s job id ≡ true → Closure rules g root id
   pub all : (id : ℕ) → Closure rules g root id → has_erased s job id ≡ true
   pub cut : (key : EdgeKey) → has_cut s job key ≡ true →
-    (edge_stands g key ≡ true) × ((id : ℕ) × Closure rules g root id × (touches id key ≡ true))
+      (edge_stands g key ≡ true) × ((id : ℕ) × Closure rules g root id × (touches id key ≡ true))
   pub all_cut : (key : EdgeKey) (id : ℕ) → edge_stands g key ≡ true → Closure rules g root id → touches id key ≡ true →
-    has_cut s job key ≡ true
+      has_cut s job key ≡ true
   pub rows : (i : ℕ) (logged : Logged) → slice_get s.items i ≡ Some logged → job_of logged.item ≡ job →
-    IsRowOf g logged.item
+      IsRowOf g logged.item
 
 -- where a part is calm for a start and the job owns nothing at its end, the job took the closure of its root
 pub record OrderDoesNotMatter (rules : RuleSet) (history : List Entry) : Type 0 where
   pub closure : (job root q : ℕ) (ids : List ℕ) → Calm rules history job root q ids →
-    owned (after rules (take q history)) job ≡ 0 →
-    TookClosure rules (after rules (take (job + 1) history)).graph root job (after rules history)
+      owned (after rules (take q history)) job ≡ 0 →
+      TookClosure rules (after rules (take (job + 1) history)).graph root job (after rules history)
 
 -- each handled item has one put
 
@@ -109,10 +106,10 @@ pub record HasOnePut (rules : RuleSet) (history : List Entry) (i : ℕ) (logged 
 -- the outcome of a handled item is the judgement at its put; a restored job with no unhandled item has all handled
 pub record PutsAreJudged (rules : RuleSet) (history : List Entry) : Type 0 where
   pub one : (i : ℕ) (logged : Logged) (how : Handled) → slice_get (after rules history).items i ≡ Some logged →
-    logged.handled ≡ Some how → HasOnePut rules history i logged how
+      logged.handled ≡ Some how → HasOnePut rules history i logged how
   pub handled : (job : ℕ) → is_restored (after rules history).jobs job ≡ true → left (after rules history) job ≡ 0 →
-    (i : ℕ) (logged : Logged) → slice_get (after rules history).items i ≡ Some logged → job_of logged.item ≡ job →
-    is_some logged.handled ≡ true
+      (i : ℕ) (logged : Logged) → slice_get (after rules history).items i ≡ Some logged → job_of logged.item ≡ job →
+      is_some logged.handled ≡ true
 
 -- a restore is a union
 
@@ -145,8 +142,8 @@ pub record OnlyPuts (rules : RuleSet) (history : List Entry) (job r q : ℕ) : T
 
 pub record RestoreIsUnion (rules : RuleSet) (history : List Entry) : Type 0 where
   pub union_is : (job r q : ℕ) → OnlyPuts rules history job r q →
-    (after rules (take q history)).graph ≡
-    union (after rules (take (r + 1) history)) (items_of_job job (after rules (take q history)).items)
+      (after rules (take q history)).graph ≡
+      union (after rules (take (r + 1) history)) (items_of_job job (after rules (take q history)).items)
 
 -- a restore is the inverse of a deletion
 
@@ -163,7 +160,7 @@ is_own_entry job what = is_step_of job what
 -- none of the job's items is listed, and the rows of these ids are those of the graph before
 pub record PutBack (g now : Graph) (s : State) (job : ℕ) (ids : List ℕ) : Type 0 where
   pub unlisted : (i : ℕ) (logged : Logged) → slice_get s.items i ≡ Some logged → job_of logged.item ≡ job →
-    was_listed logged.handled ≡ false
+      was_listed logged.handled ≡ false
   pub objects : (id : ℕ) → has ids id ≡ true → object_at now id ≡ object_at g id
   pub edges : (key : EdgeKey) (id : ℕ) → has ids id ≡ true → touches id key ≡ true → edge_at now key ≡ edge_at g key
 
@@ -171,14 +168,14 @@ pub record PutBack (g now : Graph) (s : State) (job : ℕ) (ids : List ℕ) : Ty
 -- job's own entries alone stand in the part, graph and needed positions are those after the start
 pub record Inverse (rules : RuleSet) (history : List Entry) : Type 0 where
   pub rows : (job root q : ℕ) (ids : List ℕ) → Calm rules history job root q ids →
-    AllHandled (after rules (take q history)) job →
-    PutBack (after rules (take (job + 1) history)).graph (after rules (take q history)).graph
-    (after rules (take q history)) job ids
+      AllHandled (after rules (take q history)) job →
+      PutBack (after rules (take (job + 1) history)).graph (after rules (take q history)).graph
+      (after rules (take q history)) job ids
   pub alone : (job root q : ℕ) (ids : List ℕ) → Calm rules history job root q ids →
-    AllHandled (after rules (take q history)) job →
-    ((p : ℕ) (e : Entry) → job < p → p < q → slice_get history p ≡ Some e → is_own_entry job e.what ≡ true) →
-    ((after rules (take q history)).graph ≡ (after rules (take (job + 1) history)).graph) ×
-    ((p : ℕ) → is_needed (after rules (take q history)) p ≡ is_needed (after rules (take (job + 1) history)) p)
+      AllHandled (after rules (take q history)) job →
+      ((p : ℕ) (e : Entry) → job < p → p < q → slice_get history p ≡ Some e → is_own_entry job e.what ≡ true) →
+      ((after rules (take q history)).graph ≡ (after rules (take (job + 1) history)).graph) ×
+      ((p : ℕ) → is_needed (after rules (take q history)) p ≡ is_needed (after rules (take (job + 1) history)) p)
 
 -- the room
 

@@ -3,6 +3,7 @@
 
 mod bytes;
 mod call;
+mod distances;
 mod entry;
 mod graph_store;
 mod ids;
@@ -12,6 +13,10 @@ mod numbering;
 mod rows;
 mod rules;
 mod schema;
+mod spellable;
+#[cfg(test)]
+mod tests;
+pub mod worked;
 
 pub use bytes::Bytes;
 pub use call::{Call, Cause, JobLine, Listed, Refusal, Status};
@@ -21,5 +26,6 @@ pub use ids::{EdgeNo, Job, JobName, Moment, ObjectId, TypeNo};
 pub use list::List;
 pub use name::{Name, NameFault, is_name_byte, is_name_text};
 pub use rows::{EdgeKey, EdgeRow, Item, ObjectRow};
-pub use rules::Rules;
+pub use rules::{Broken, JudgeFault, Rules, RulesFault};
 pub use schema::{EdgeRule, EdgeShape, EdgeType, ObjectRule, ObjectType, Schema};
+pub use spellable::is_spellable;

@@ -1,5 +1,6 @@
 ghost use Rattle.std.specs.Prelude.{◌≡◌, ◌↔◌, ◌≤◌, IfOk, IsTrue, false, length};
 ghost use Rattle.std.specs.List.{list_all};
+ghost use Rattle.std.specs.Str.{bytes_eq};
 ghost use Rattle.delf_model.specs.Names.{IsName, is_name, is_name_code};
 
 use std::alloc::{AllocError, Global};
@@ -87,7 +88,8 @@ impl Name {
 
     /// Whether another name has the same bytes.
     pub fn same(&self, other: &Name) -> bool
-        ensures { IsTrue result ↔ (self.now ≡ other.now) }
+        ensures equal { IsTrue result ↔ (self.now ≡ other.now) }
+        ensures tested { result ≡ bytes_eq self.now other.now }
     {
         self.text.as_slice() == other.text.as_slice()
     }

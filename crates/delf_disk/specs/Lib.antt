@@ -1,0 +1,11 @@
+pub mod Areas
+pub mod Causes
+pub mod Content
+pub mod Counts
+pub mod EpochLaws
+pub mod Epochs
+pub mod Images
+pub mod Laying
+pub mod MemDisk
+pub mod Moments
+pub mod Plain

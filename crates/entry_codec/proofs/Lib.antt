@@ -1,0 +1,4 @@
+pub mod Fields
+pub mod Entries
+pub mod Items
+pub mod Writing

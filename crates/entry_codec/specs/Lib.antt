@@ -1,0 +1,4 @@
+pub mod Field
+pub mod EntryHead
+pub mod ItemHead
+pub mod Reading

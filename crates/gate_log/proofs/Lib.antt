@@ -1,0 +1,10 @@
+mod Gate
+mod Rows
+mod Kept
+mod Opened
+mod Reading
+mod Spans
+mod Parts
+mod Scrubbing
+mod Closing
+pub mod Uniqueness

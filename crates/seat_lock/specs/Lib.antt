@@ -1,0 +1,6 @@
+pub mod Views
+pub mod Promises
+pub mod Turns
+pub mod Plays
+pub mod Locks
+pub mod Lists
