@@ -1,0 +1,17 @@
+pub mod Applied
+pub mod Places
+pub mod Lefts
+pub mod Listing
+pub mod Sums
+pub mod Lookups
+pub mod Passing
+pub mod Totals
+pub mod Rows
+pub mod Steps
+pub mod Moves
+pub mod Accounts
+pub mod Starts
+pub mod Calls
+pub mod Begins
+pub mod Erasures
+pub mod Puts

@@ -1,0 +1,16 @@
+use Rattle.std.proofs.Common.{Bool, true, cond, Some, sym, ap}
+use Rattle.delf_model.specs.State.{erased_at}
+use Rattle.job_table.specs.Parts.{row_of}
+use Rattle.job_table.proofs.Places.{change_some, change_none}
+use Rattle.job_table.proofs.jobs.Jobs.erase.Goals as goal
+
+pub returns-in-Some-clause-list : goal.returns-in-Some-clause-list
+returns-in-Some-clause-list c =
+    change_some c.self.inside.rows.items c.deref.result.now c.args.self.now _ c.args.job c.in-Some.i c.index_mut.result.now
+    (record c.index_mut.result.now { last = Some c.args.moment }) (erased_at c.args.job c.args.moment)
+    c.deref.ensures.value c.self.view_is c.in-Some.ensures c.index_mut.ensures.value
+    (λ h. sym (ap (λ (b : Bool). cond b (record (row_of c.index_mut.result.now) { last = Some c.args.moment }) (row_of c.index_mut.result.now)) h))
+
+pub returns-in-None-clause-list : goal.returns-in-None-clause-list
+returns-in-None-clause-list c =
+    change_none c.self.inside.rows.items c.deref.result.now c.args.self.now _ c.args.job (erased_at c.args.job c.args.moment) c.deref.ensures.value c.self.view_is c.in-None.ensures

@@ -1,0 +1,7 @@
+pub mod Apart
+pub mod Fits
+pub mod Items
+pub mod Next
+pub mod Notes
+pub mod Parts
+pub mod Table

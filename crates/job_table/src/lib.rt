@@ -1,0 +1,14 @@
+//! The state after a history without its graph, kept entry by entry.
+#![tactic(auto)]
+
+mod apply;
+mod claims;
+mod items;
+mod jobs;
+mod next;
+mod owners;
+mod seats;
+mod table;
+
+pub use next::Next;
+pub use table::JobTable;
