@@ -1,22 +1,19 @@
-use Rattle.std.proofs.Common.{◌≡◌, ℕ, zero, suc, ◌+◌, ◌<◌, ◌≤◌, Bool, true, false, cond, not, ◌&&◌, ◌||◌, List, [], ◌∷◌, ◌++◌, map, Option, Some, None, is_some, refl, sym, ◌∙◌, ap, subst, inl, inr, ◌⊎◌, arith, ltb, eqb, leb}
-use Rattle.std.specs.Prelude.{find, filter, option_map, nat_eq, nat_lt, nat_le, is_none, sum_by, count_by}
+use Rattle.std.proofs.Common.{◌≡◌, ℕ, ◌+◌, ◌≤◌, true, cond, ◌&&◌, List, [], ◌∷◌, ◌++◌, map, Option, Some, None, is_some, refl, sym, ◌∙◌, arith}
+use Rattle.std.specs.Prelude.{nat_eq, nat_le, is_none, count_by}
 use Rattle.std.proofs.lemmas.Bool.Decides.{nat_tests}
-use Rattle.std.proofs.lemmas.Grind.{common_steps}
-use Rattle.std.proofs.lemmas.List.Sums.{sum_by-cons, sum_by_push}
+use Rattle.std.proofs.lemmas.List.Sums.{sum_by_push}
 use Rattle.delf_model.specs.declared.rows.ObjectRow.{ObjectRow}
-use Rattle.delf_model.specs.declared.rows.EdgeRow.{EdgeRow}
 use Rattle.delf_model.specs.declared.entry.Entry.{Entry}
-use Rattle.delf_model.specs.declared.entry.What.{What}
 use Rattle.delf_model.specs.declared.call.Refusal.{Refusal}
-use Rattle.delf_model.specs.Graph.{Graph, object_at, objects_rise}
-use Rattle.delf_model.specs.State.{State, JobRow, Owners, Logged, owner, owned, owner_in, is_job, is_pair_of, step, graph_after, items_after, jobs_after, seats_with, tag_of, start_of, root_of_start, is_restored, first_of_two, owners_after}
-use Rattle.delf_model.specs.Legal.{room, owed, used, room_limit, owed_for_object, owed_for_edge, owed_for_job, owed_for_item, is_legal, is_allowed, refusals, first_refusal, refused, absent, condemned, condemned_by, is_tag, is_numbered, greatest_moment}
+use Rattle.delf_model.specs.Graph.{object_at, objects_rise}
+use Rattle.delf_model.specs.State.{State, Owners, owner, owned, is_job, is_pair_of, step, graph_after, items_after, jobs_after, seats_with, tag_of, start_of, root_of_start, is_restored, first_of_two}
+use Rattle.delf_model.specs.Legal.{room, owed, room_limit, is_legal, is_allowed, absent, condemned, condemned_by, is_tag, is_numbered, greatest_moment}
 use Rattle.job_table.specs.Table.{Table, IsTableOf, Keeps, starts_rise, id_of_owner, id_of, owner_among, owned_among, is_of_owner}
 use Rattle.job_table.proofs.Lookups.{both}
-use Rattle.job_table.proofs.Passing.{owned_is, one_if, counted, no_owner}
-use Rattle.job_table.proofs.Steps.{Ordered, ids_after}
+use Rattle.job_table.proofs.Passing.{owned_is, one_if}
+use Rattle.job_table.proofs.Steps.{ids_after}
 use Rattle.job_table.proofs.Totals.{total}
-use Rattle.job_table.proofs.Moves.{Same, Added, Gained, Dropped, same_pairs, gained_pairs, dropped_pairs}
+use Rattle.job_table.proofs.Moves.{Same, Added, Gained, Dropped}
 
 -- what an owner weighs: in the count of a job, and in the room rule
 
@@ -94,7 +91,7 @@ assembled s e new k len moment owes owners owned items jobs seats within starts 
 -- counts of owned objects after a move, in state and table
 
 module _ (before after : Owners) (rows next : List ObjectRow) (ids : map id_of_owner before ≡ map id_of rows) (ids' : map id_of_owner after ≡ map id_of next)
-  (rise : objects_rise rows ≡ true) (rise' : objects_rise next ≡ true) where
+    (rise : objects_rise rows ≡ true) (rise' : objects_rise next ≡ true) where
   pub counts_same : Same before rows after next → (job : ℕ) → count_by (is_pair_of job) after ≡ count_by (is_pair_of job) before
   counts_same m job = owned_is job after next ids' rise' ∙ m.weight (counts_for job) ∙ sym (owned_is job before rows ids rise)
 

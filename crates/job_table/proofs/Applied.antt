@@ -1,4 +1,4 @@
-use Rattle.std.proofs.Common.{◌≡◌, ℕ, ◌+◌, ◌-◌, ◌<◌, ◌≤◌, Bool, true, false, cond, ◌&&◌, ◌||◌, List, ◌∷◌, ◌++◌, [], Option, Some, None, is_some, refl, sym, ◌∙◌, ap, subst, arith}
+use Rattle.std.proofs.Common.{◌≡◌, ℕ, ◌+◌, ◌-◌, ◌≤◌, Bool, true, false, cond, ◌&&◌, ◌∷◌, ◌++◌, [], Option, Some, None, is_some, sym, ◌∙◌, ap, subst, arith}
 use Rattle.std.specs.Prelude.{nat_eq, is_none, sum_by}
 use Rattle.delf_model.specs.declared.rows.EdgeKey.{EdgeKey}
 use Rattle.delf_model.specs.declared.entry.Entry.{Entry}
@@ -16,7 +16,7 @@ use Rattle.delf_model.specs.RuleSet.{RuleSet}
 use Rattle.delf_model.specs.Graph.{Graph, TakesEdge, changed, object_at, edge_at, edge_stands, objects_rise, edges_rise}
 use Rattle.delf_model.specs.Store.{EndsStand}
 use Rattle.delf_model.specs.State.{State, step, owner, judged, birth_of, condemns, is_job}
-use Rattle.delf_model.specs.Legal.{is_legal, room_limit}
+use Rattle.delf_model.specs.Legal.{is_legal}
 use Rattle.job_table.specs.Table.{Table, IsTableOf, IsGraphOf, owner_among, owned_among, item_at, item_of_logged}
 use Rattle.job_table.specs.Notes.{noted, noted_start, noted_restore, noted_purge, weight_of, noted_item, noted_put, takes_last, condemns_before, item_weight, put_weight}
 use Rattle.job_table.proofs.Steps.{Ordered, condemns_by_count, last_by_count}
@@ -66,7 +66,7 @@ condemns_is s stored refs ruled key i o e =
 -- an unlink
 
 module _ (s : State) (e : Entry) (tag : Tag) (key : EdgeKey) (name : ℕ) (t : Table) (stored : Graph) (refs : ℕ → Bool) (ruled : RuleSet)
-  (what : e.what ≡ Unlink tag key.edge key.from key.to name) (h : IsTableOf s t) (i : IsGraphOf s stored refs ruled) (o : Ordered stored) (l : is_legal s e ≡ true) where
+    (what : e.what ≡ Unlink tag key.edge key.from key.to name) (h : IsTableOf s t) (i : IsGraphOf s stored refs ruled) (o : Ordered stored) (l : is_legal s e ≡ true) where
   unlink_order : Ordered s.graph
   unlink_order = subst (λ (g : Graph). Ordered g) i.graph o
 
@@ -102,7 +102,7 @@ module _ (s : State) (e : Entry) (tag : Tag) (key : EdgeKey) (name : ℕ) (t : T
 -- a cut
 
 module _ (s : State) (e : Entry) (job : ℕ) (key : EdgeKey) (t : Table) (stored : Graph) (refs : ℕ → Bool) (ruled : RuleSet)
-  (what : e.what ≡ Cut job key.edge key.from key.to) (h : IsTableOf s t) (i : IsGraphOf s stored refs ruled) (o : Ordered stored) (l : is_legal s e ≡ true) where
+    (what : e.what ≡ Cut job key.edge key.from key.to) (h : IsTableOf s t) (i : IsGraphOf s stored refs ruled) (o : Ordered stored) (l : is_legal s e ≡ true) where
   cut_order : Ordered s.graph
   cut_order = subst (λ (g : Graph). Ordered g) i.graph o
 
@@ -154,7 +154,7 @@ module _ (s : State) (e : Entry) (job : ℕ) (key : EdgeKey) (t : Table) (stored
 -- an erase
 
 module _ (s : State) (e : Entry) (job id : ℕ) (t : Table) (stored : Graph) (refs : ℕ → Bool) (ruled : RuleSet)
-  (what : e.what ≡ Erase job id) (h : IsTableOf s t) (i : IsGraphOf s stored refs ruled) (o : Ordered stored) (l : is_legal s e ≡ true) where
+    (what : e.what ≡ Erase job id) (h : IsTableOf s t) (i : IsGraphOf s stored refs ruled) (o : Ordered stored) (l : is_legal s e ≡ true) where
   erase_order : Ordered s.graph
   erase_order = subst (λ (g : Graph). Ordered g) i.graph o
 
@@ -181,7 +181,7 @@ module _ (s : State) (e : Entry) (job id : ℕ) (t : Table) (stored : Graph) (re
 -- a put
 
 module _ (s : State) (e : Entry) (job n : ℕ) (t : Table) (stored : Graph) (refs : ℕ → Bool) (ruled : RuleSet)
-  (what : e.what ≡ Put job n) (h : IsTableOf s t) (i : IsGraphOf s stored refs ruled) (o : Ordered stored) (l : is_legal s e ≡ true) where
+    (what : e.what ≡ Put job n) (h : IsTableOf s t) (i : IsGraphOf s stored refs ruled) (o : Ordered stored) (l : is_legal s e ≡ true) where
   put_order : Ordered s.graph
   put_order = subst (λ (g : Graph). Ordered g) i.graph o
 
@@ -208,7 +208,7 @@ module _ (s : State) (e : Entry) (job n : ℕ) (t : Table) (stored : Graph) (ref
 -- the other kinds
 
 module _ (s : State) (e : Entry) (t : Table) (stored : Graph) (refs : ℕ → Bool) (ruled : RuleSet)
-  (h : IsTableOf s t) (i : IsGraphOf s stored refs ruled) (o : Ordered stored) (l : is_legal s e ≡ true) where
+    (h : IsTableOf s t) (i : IsGraphOf s stored refs ruled) (o : Ordered stored) (l : is_legal s e ≡ true) where
   order : Ordered s.graph
   order = subst (λ (g : Graph). Ordered g) i.graph o
 
@@ -241,7 +241,7 @@ module _ (s : State) (e : Entry) (t : Table) (stored : Graph) (refs : ℕ → Bo
   pub update_room : (tag : Tag) (id size : ℕ) → e.what ≡ Update tag id size → t.len + 1 + (t.owed + 0) ≤ 500000
   update_room tag id size w =
       let r = room_of (step s (record { moment = e.moment; what = Update tag id size })) (noted t e.moment (Some tag.seat) t.owed)
-          (update_step s e.moment id size tag t order h (legal_as s e (Update tag id size) w l)) in omega (arith, r)
+      (update_step s e.moment id size tag t order h (legal_as s e (Update tag id size) w l)) in omega (arith, r)
 
   pub delete_applied : (tag : Tag) (id name : ℕ) (new : Table) → e.what ≡ Delete tag id name → new ≡ noted_start t e.moment (Some tag.seat) id (Named name) (t.owed - 1) → IsTableOf (step s e) new
   delete_applied tag id name new w q =

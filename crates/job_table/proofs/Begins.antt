@@ -1,28 +1,24 @@
-use Rattle.std.proofs.Common.{◌≡◌, ℕ, zero, suc, ◌+◌, ◌-◌, ◌<◌, ◌≤◌, Bool, true, false, cond, not, ◌&&◌, ◌||◌, List, [], ◌∷◌, ◌++◌, map, Option, Some, None, is_some, refl, sym, ◌∙◌, ap, subst, inl, inr, ◌⊎◌, arith, ltb, eqb, leb}
-use Rattle.std.specs.Prelude.{find, filter, nat_eq, nat_lt, nat_le, is_none, sum_by, count_by, slice_get}
-use Rattle.std.proofs.lemmas.Bool.Decides.{nat_tests}
+use Rattle.std.proofs.Common.{◌≡◌, ℕ, ◌+◌, ◌-◌, ◌≤◌, Bool, true, false, cond, not, ◌&&◌, ◌||◌, List, [], ◌∷◌, ◌++◌, map, Option, Some, None, is_some, refl, sym, ◌∙◌, ap, subst, arith}
+use Rattle.std.specs.Prelude.{nat_eq, is_none, sum_by}
 use Rattle.delf_model.specs.declared.rows.ObjectRow.{ObjectRow}
 use Rattle.delf_model.specs.declared.rows.EdgeKey.{EdgeKey}
-use Rattle.delf_model.specs.declared.rows.EdgeRow.{EdgeRow}
 use Rattle.delf_model.specs.declared.entry.Entry.{Entry}
 use Rattle.delf_model.specs.declared.entry.Tag.{Tag}
-use Rattle.delf_model.specs.declared.entry.What.{What}
-use Rattle.delf_model.specs.declared.entry.What.TheVariants.{Create, Update, Link, Unlink, Delete, Restore, Expire, Cut, Erase, Put, Purge}
+use Rattle.delf_model.specs.declared.entry.What.TheVariants.{Unlink, Delete, Restore, Expire, Purge}
 use Rattle.delf_model.specs.declared.ids.JobName.{JobName}
 use Rattle.delf_model.specs.declared.ids.JobName.TheVariants.{Named, Expiry}
-use Rattle.delf_model.specs.RuleSet.{RuleSet, is_refcount}
-use Rattle.delf_model.specs.Graph.{Graph, changed, TakesEdge, object_at, edge_at, edge_stands, objects_rise, has_refs, has_id}
-use Rattle.delf_model.specs.Store.{counted_refs}
-use Rattle.delf_model.specs.State.{State, JobRow, Owners, owner, owned, owner_in, owners_after, step, new_job, is_restored, is_restored_row, job_row, jobs_after, items_after, seats_with, tag_of, key_of, unlink_start, root_of_start, started_job, restored_at, purged_if, starts_at, is_pair_of, first_passed, graph_after, left}
-use Rattle.delf_model.specs.Legal.{room, owed, room_limit, owed_for_edge, owed_for_job, owed_for_item, is_legal, absent, condemned, is_due_row, full, no_edge, no_job, pending, restored_before, window_over, may_expire, is_named_so, may_purge, window_passed}
+use Rattle.delf_model.specs.RuleSet.{is_refcount}
+use Rattle.delf_model.specs.Graph.{changed, TakesEdge, object_at, edge_at, edge_stands, objects_rise, has_refs}
+use Rattle.delf_model.specs.State.{State, JobRow, Owners, owner, owned, owners_after, step, new_job, is_restored, job_row, jobs_after, items_after, seats_with, tag_of, key_of, root_of_start, started_job, restored_at, purged_if, starts_at, left}
+use Rattle.delf_model.specs.Legal.{room, owed, room_limit, owed_for_edge, owed_for_job, owed_for_item, is_legal, absent, condemned, is_due_row, full, no_edge, no_job, pending, restored_before, window_over, is_named_so, may_purge, window_passed}
 use Rattle.job_table.specs.Table.{Table, IsTableOf, Keeps, starts_rise, owner_among, owned_among, id_of_owner, id_of}
 use Rattle.job_table.specs.Parts.{changed_first}
-use Rattle.job_table.specs.Notes.{noted, noted_start, noted_restore, noted_purge, with_seat, weight_of}
+use Rattle.job_table.specs.Notes.{noted, noted_start, noted_restore, noted_purge, weight_of}
 use Rattle.job_table.proofs.Lookups.{both, all_found}
 use Rattle.job_table.proofs.Sums.{sum_by-filter_edge}
-use Rattle.job_table.proofs.Passing.{one_if, first_passed_none}
-use Rattle.job_table.proofs.Steps.{Ordered, ids_after, eqb_is, nothing_passed, condemns_by_count}
-use Rattle.job_table.proofs.Moves.{Same, Added, Gained, same_moved, unpassed_moved, gained_moved, same_pairs}
+use Rattle.job_table.proofs.Passing.{first_passed_none}
+use Rattle.job_table.proofs.Steps.{Ordered, ids_after, eqb_is, nothing_passed}
+use Rattle.job_table.proofs.Moves.{Same, Gained, same_moved, unpassed_moved, gained_moved, same_pairs}
 use Rattle.job_table.proofs.Rows.{is_restored-restored, is_restored-purged, starts_wider, starts_map, owed_items-same, owed_items-restored, owed_jobs-same, owed_jobs-purged, changed_is_map, purged_other, restored_other}
 use Rattle.job_table.proofs.Accounts.{allowed, none_of_two, there, free, assembled, counts_same, owes}
 use Rattle.job_table.proofs.Calls.{room_left, edge_there, none_pending, job_there, not_restored, start_step, jobs_started, items_started}
@@ -101,8 +97,8 @@ expire_step s m id t o h l =
 -- an entry over the same owners
 
 module _ (s : State) (e : Entry) (t : Table) (rows : List ObjectRow) (o : Ordered s.graph) (h : IsTableOf s t)
-  (g : Same s.owners s.graph.objects (step s e).owners rows)
-  (ids : map id_of_owner (step s e).owners ≡ map id_of rows) (rise : objects_rise rows ≡ true) where
+    (g : Same s.owners s.graph.objects (step s e).owners rows)
+    (ids : map id_of_owner (step s e).owners ≡ map id_of rows) (rise : objects_rise rows ≡ true) where
   pub same_owned : (job : ℕ) → owned (step s e) job ≡ owned s job
   same_owned = counts_same s.owners (step s e).owners s.graph.objects rows h.keeps.ids ids o.objects rise g
 
@@ -167,8 +163,15 @@ pub unlink_started_owed : (s : State) (m edge from to name : ℕ) (tag : Tag) �
 unlink_started_owed s m edge from to name tag o k l b =
     let facts = unlink_facts s m edge from to name tag l in
     let jobs = unlink_started_jobs s m edge from to name tag b in
-    omega (arith, (unlink_gained s m edge from to name tag o k l b).weight owes, unlink_edges s (key_of edge from to) o facts.4,
-    ap (sum_by owed_for_job) jobs, jobs_started s to (Named name), ap (λ (r : List JobRow). sum_by (owed_for_item r) s.items) jobs, items_started s to (Named name))
+    omega (
+      arith,
+      (unlink_gained s m edge from to name tag o k l b).weight owes,
+      unlink_edges s (key_of edge from to) o facts.4,
+      ap (sum_by owed_for_job) jobs,
+      jobs_started s to (Named name),
+      ap (λ (r : List JobRow). sum_by (owed_for_item r) s.items) jobs,
+      items_started s to (Named name),
+    )
 
 pub unlink_started_step : (s : State) (m edge from to name : ℕ) (tag : Tag) (t : Table) → Ordered s.graph → IsTableOf s t →
     is_legal s (record { moment = m; what = Unlink tag edge from to name }) ≡ true → starts s edge from to ≡ true →
@@ -209,8 +212,13 @@ pub unlink_plain_owed : (s : State) (m edge from to name : ℕ) (tag : Tag) → 
 unlink_plain_owed s m edge from to name tag o k l b =
     let facts = unlink_facts s m edge from to name tag l in
     let jobs = unlink_plain_jobs s m edge from to name tag b in
-    omega (arith, (unlink_same s m edge from to name tag k l b).weight owes, unlink_edges s (key_of edge from to) o facts.4,
-    ap (sum_by owed_for_job) jobs, ap (λ (r : List JobRow). sum_by (owed_for_item r) s.items) jobs)
+    omega (
+      arith,
+      (unlink_same s m edge from to name tag k l b).weight owes,
+      unlink_edges s (key_of edge from to) o facts.4,
+      ap (sum_by owed_for_job) jobs,
+      ap (λ (r : List JobRow). sum_by (owed_for_item r) s.items) jobs,
+    )
 
 pub unlink_plain_step : (s : State) (m edge from to name : ℕ) (tag : Tag) (t : Table) → Ordered s.graph → IsTableOf s t →
     is_legal s (record { moment = m; what = Unlink tag edge from to name }) ≡ true → starts s edge from to ≡ false →
@@ -261,8 +269,12 @@ pub restore_owed : (s : State) (m job : ℕ) (tag : Tag) → Keeps s → is_lega
     owed (step s (record { moment = m; what = Restore tag job })) ≡ owed s + sum_by (weight_of job) s.items
 restore_owed s m job tag k l =
     let facts = restore_facts s m job tag l in
-    omega (arith, (restore_same s k).weight owes, owed_jobs-same (restored_at job s.len) s.jobs (restored_purged job s.len),
-    owed_items-restored s.jobs (map (restored_at job s.len) s.jobs) job s.items (λ other. is_restored-restored job s.len other facts.0 s.jobs facts.1) facts.3)
+    omega (
+      arith,
+      (restore_same s k).weight owes,
+      owed_jobs-same (restored_at job s.len) s.jobs (restored_purged job s.len),
+      owed_items-restored s.jobs (map (restored_at job s.len) s.jobs) job s.items (λ other. is_restored-restored job s.len other facts.0 s.jobs facts.1) facts.3,
+    )
 
 pub restore_step : (s : State) (m job : ℕ) (tag : Tag) (t : Table) → Ordered s.graph → IsTableOf s t →
     is_legal s (record { moment = m; what = Restore tag job }) ≡ true →
@@ -295,6 +307,7 @@ purge_facts s m job l = go (job_row s.jobs job) refl (allowed s (record { moment
     off : (b : Bool) → not b ≡ true → b ≡ false
     off true h = absurd (cc h)
     off false h = refl
+
     go : (v : Option JobRow) → job_row s.jobs job ≡ v → may_purge s m v ≡ true → (row : JobRow) × (job_row s.jobs job ≡ Some row) × (row.purged ≡ false)
     go None e h = absurd (cc h)
     go (Some row) e h =
@@ -314,8 +327,12 @@ pub purge_owed : (s : State) (m job : ℕ) → Keeps s → is_legal s (record { 
     owed (step s (record { moment = m; what = Purge job })) + 1 ≡ owed s
 purge_owed s m job k l =
     let facts = purge_facts s m job l in
-    omega (arith, (restore_same s k).weight owes, owed_jobs-purged job 0 s.len facts.0 s.jobs k.starts facts.1 facts.2,
-    owed_items-same s.jobs (map (purged_if job) s.jobs) s.items (λ other. is_restored-purged job other s.jobs))
+    omega (
+      arith,
+      (restore_same s k).weight owes,
+      owed_jobs-purged job 0 s.len facts.0 s.jobs k.starts facts.1 facts.2,
+      owed_items-same s.jobs (map (purged_if job) s.jobs) s.items (λ other. is_restored-purged job other s.jobs),
+    )
 
 pub purge_step : (s : State) (m job : ℕ) (t : Table) → Ordered s.graph → IsTableOf s t →
     is_legal s (record { moment = m; what = Purge job }) ≡ true →

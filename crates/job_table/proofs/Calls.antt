@@ -1,6 +1,5 @@
-use Rattle.std.proofs.Common.{◌≡◌, ℕ, zero, suc, ◌+◌, ◌-◌, ◌<◌, ◌≤◌, Bool, true, false, cond, not, ◌&&◌, ◌||◌, List, [], ◌∷◌, ◌++◌, map, Option, Some, None, is_some, refl, sym, ◌∙◌, ap, subst, inl, inr, ◌⊎◌, arith, ltb, eqb, leb}
-use Rattle.std.specs.Prelude.{find, filter, nat_eq, nat_lt, nat_le, is_none, sum_by, count_by, slice_get}
-use Rattle.std.specs.List.{list_all}
+use Rattle.std.proofs.Common.{◌≡◌, ℕ, ◌+◌, ◌-◌, ◌<◌, ◌≤◌, Bool, true, false, cond, List, [], ◌∷◌, ◌++◌, map, Option, Some, None, is_some, refl, sym, ◌∙◌, ap, subst, arith}
+use Rattle.std.specs.Prelude.{nat_eq, nat_lt, sum_by, slice_get}
 use Rattle.std.proofs.lemmas.Bool.Decides.{nat_tests}
 use Rattle.std.proofs.lemmas.List.Sums.{sum_by_push}
 use Rattle.delf_model.specs.declared.rows.ObjectRow.{ObjectRow}
@@ -9,23 +8,22 @@ use Rattle.delf_model.specs.declared.rows.EdgeRow.{EdgeRow}
 use Rattle.delf_model.specs.declared.entry.Entry.{Entry}
 use Rattle.delf_model.specs.declared.entry.Tag.{Tag}
 use Rattle.delf_model.specs.declared.entry.What.{What}
-use Rattle.delf_model.specs.declared.entry.What.TheVariants.{Create, Update, Link, Unlink, Delete, Restore, Expire, Cut, Erase, Put, Purge}
+use Rattle.delf_model.specs.declared.entry.What.TheVariants.{Create, Update, Link}
 use Rattle.delf_model.specs.declared.ids.JobName.{JobName}
-use Rattle.delf_model.specs.declared.ids.JobName.TheVariants.{Named, Expiry}
 use Rattle.delf_model.specs.declared.call.Refusal.{Refusal}
-use Rattle.delf_model.specs.Graph.{Graph, Change, changed, TakesEdge, PutsEdge, PutsObject, RewritesObject, object_at, edge_at, edge_stands, objects_rise, put_object, put_edge, rewritten, has_id, has_key}
-use Rattle.delf_model.specs.State.{State, JobRow, Owners, owner, owned, owner_in, owners_after, step, new_job, is_restored, is_restored_row, job_row, jobs_after, new_object, new_edge, key_of, unlink_start, root_of_start, started_job, restored_at, is_pair_of, first_passed}
-use Rattle.delf_model.specs.Legal.{room, owed, room_limit, owed_for_edge, owed_for_job, owed_for_item, is_legal, too_long, absent, condemned, not_direct, job_taken, job_taken_if, refused, is_due_row, name_taken, name_taken_by, edge_taken, edge_taken_by, full, wrong_source, wrong_target, no_edge, no_job, pending, restored_before, restored_by, window_over, may_expire, is_named_so}
+use Rattle.delf_model.specs.Graph.{changed, PutsEdge, PutsObject, RewritesObject, object_at, edge_at, edge_stands, put_object, rewritten}
+use Rattle.delf_model.specs.State.{State, JobRow, owned, owners_after, step, new_job, is_restored, is_restored_row, job_row, jobs_after, new_object, new_edge, key_of}
+use Rattle.delf_model.specs.Legal.{room, owed, room_limit, owed_for_edge, owed_for_job, owed_for_item, is_legal, too_long, absent, condemned, name_taken, name_taken_by, edge_taken, edge_taken_by, full, wrong_source, wrong_target, no_edge, no_job, pending, restored_before, restored_by}
 use Rattle.job_table.specs.Table.{Table, IsTableOf, Keeps, starts_rise, owner_among, owned_among, id_of_owner, id_of}
-use Rattle.job_table.specs.Notes.{noted, noted_start, noted_restore, with_seat, weight_of}
-use Rattle.job_table.proofs.Lookups.{both, all_found, found_after_put}
-use Rattle.job_table.proofs.Sums.{sum_by-put_edge, sum_by-filter_edge}
-use Rattle.job_table.proofs.Passing.{one_if, first_passed_none}
-use Rattle.job_table.proofs.Steps.{Ordered, ids_after, eqb_is, nothing_passed}
+use Rattle.job_table.specs.Notes.{noted, noted_start, with_seat}
+use Rattle.job_table.proofs.Lookups.{found_after_put}
+use Rattle.job_table.proofs.Sums.{sum_by-put_edge}
+use Rattle.job_table.proofs.Passing.{one_if}
+use Rattle.job_table.proofs.Steps.{Ordered, ids_after, eqb_is}
 use Rattle.job_table.proofs.Totals.{objects_rise_put, objects_rise_rewritten}
-use Rattle.job_table.proofs.Moves.{Same, Added, Gained, same_moved, unpassed_moved, added_moved, rewritten_moved, gained_moved, same_pairs, added_pairs, gained_pairs}
-use Rattle.job_table.proofs.Rows.{is_restored-new, is_restored-restored, starts_push, starts_wider, starts_map, none_starts_past, owed_items-same, owed_items-restored, owed_jobs-same}
-use Rattle.job_table.proofs.Accounts.{allowed, none_of_two, there, free, assembled, counts_same, counts_added, counts_gained, pairs_push, owes}
+use Rattle.job_table.proofs.Moves.{Same, Gained, same_moved, added_moved, rewritten_moved, same_pairs, added_pairs, gained_pairs}
+use Rattle.job_table.proofs.Rows.{is_restored-new, starts_push, starts_wider, owed_items-same}
+use Rattle.job_table.proofs.Accounts.{allowed, none_of_two, assembled, counts_same, counts_added, counts_gained, pairs_push, owes}
 use Rattle.job_table.proofs.Starts.{idle_gained}
 
 -- what refusals say where they do not hold
@@ -106,8 +104,8 @@ create_step s m kind id size tag t o h l =
     let next = step s (record { moment = m; what = Create tag kind id size }) in
     let g = added_moved s.rules s.graph row s.len s.owners h.keeps.ids facts.0 in
     let counts = counts_added s.owners next.owners s.graph.objects (put_object row s.graph.objects) h.keeps.ids
-        (ids_after s.rules s.graph (changed s.graph (PutsObject row)) None s.len s.owners (put_object row s.graph.objects))
-        o.objects (objects_rise_put row s.graph.objects o.objects) g in
+    (ids_after s.rules s.graph (changed s.graph (PutsObject row)) None s.len s.owners (put_object row s.graph.objects))
+    o.objects (objects_rise_put row s.graph.objects o.objects) g in
     assembled s (record { moment = m; what = Create tag kind id size }) (noted t m (Some tag.seat) (t.owed + 3)) h.keeps
     (ap (λ (n : ℕ). n + 1) h.len) refl (omega (arith, h.owed, create_owed s m kind id size tag h.keeps facts.0))
     (added_pairs s.owners next.owners s.graph.objects (put_object row s.graph.objects) t.owners g h.owners)
@@ -141,8 +139,8 @@ update_step s m id size tag t o h l =
     let rows = map (rewritten id s.len size) s.graph.objects in
     let g = rewritten_moved s.rules s.graph id s.len size s.len s.owners h.keeps.ids in
     let counts = counts_same s.owners next.owners s.graph.objects rows h.keeps.ids
-        (ids_after s.rules s.graph (changed s.graph (RewritesObject id s.len size)) None s.len s.owners rows)
-        o.objects (objects_rise_rewritten id s.len size s.graph.objects o.objects) g in
+    (ids_after s.rules s.graph (changed s.graph (RewritesObject id s.len size)) None s.len s.owners rows)
+    o.objects (objects_rise_rewritten id s.len size s.graph.objects o.objects) g in
     assembled s (record { moment = m; what = Update tag id size }) (noted t m (Some tag.seat) t.owed) h.keeps
     (ap (λ (n : ℕ). n + 1) h.len) refl (h.owed ∙ sym (update_owed s m id size tag h.keeps))
     (same_pairs s.owners next.owners s.graph.objects rows t.owners g h.owners)
@@ -187,8 +185,8 @@ link_step s m edge from to size tag t o h l =
     let next = step s (record { moment = m; what = Link tag edge from to size }) in
     let g = link_same s edge from to size h.keeps in
     let counts = counts_same s.owners next.owners s.graph.objects s.graph.objects h.keeps.ids
-        (ids_after s.rules s.graph (changed s.graph (PutsEdge (new_edge s edge from to size))) None s.len s.owners s.graph.objects)
-        o.objects o.objects g in
+    (ids_after s.rules s.graph (changed s.graph (PutsEdge (new_edge s edge from to size))) None s.len s.owners s.graph.objects)
+    o.objects o.objects g in
     assembled s (record { moment = m; what = Link tag edge from to size }) (noted t m (Some tag.seat) (t.owed + 1)) h.keeps
     (ap (λ (n : ℕ). n + 1) h.len) refl (omega (arith, h.owed, link_owed s m edge from to size tag h.keeps facts.0))
     (same_pairs s.owners next.owners s.graph.objects s.graph.objects t.owners g h.owners)
@@ -200,9 +198,9 @@ link_step s m edge from to size tag t o h l =
 -- an entry over the same objects that starts a job at an object without owner
 
 module _ (s : State) (e : Entry) (t : Table) (root : ℕ) (name : JobName) (less : ℕ) (o : Ordered s.graph) (h : IsTableOf s t)
-  (g : Gained root s.len s.owners s.graph.objects (step s e).owners s.graph.objects)
-  (ids : map id_of_owner (step s e).owners ≡ map id_of s.graph.objects)
-  (owes : owed (step s e) + less ≡ owed s) (some : 0 < less) where
+    (g : Gained root s.len s.owners s.graph.objects (step s e).owners s.graph.objects)
+    (ids : map id_of_owner (step s e).owners ≡ map id_of s.graph.objects)
+    (owes : owed (step s e) + less ≡ owed s) (some : 0 < less) where
   pub start_counts : (job : ℕ) → owned (step s e) job ≡ owned s job + one_if (nat_eq s.len job)
   start_counts = counts_gained s.owners (step s e).owners s.graph.objects s.graph.objects h.keeps.ids ids o.objects o.objects root s.len g
 

@@ -1,25 +1,21 @@
-use Rattle.std.proofs.Common.{◌≡◌, ℕ, zero, suc, ◌+◌, ◌-◌, ◌<◌, ◌≤◌, Bool, true, false, cond, not, ◌&&◌, ◌||◌, List, [], ◌∷◌, ◌++◌, map, Option, Some, None, is_some, refl, sym, ◌∙◌, ap, subst, inl, inr, ◌⊎◌, arith, ltb, eqb, leb}
-use Rattle.std.specs.Prelude.{find, filter, nat_eq, nat_lt, nat_le, is_none, sum_by, count_by, slice_get}
-use Rattle.std.proofs.lemmas.Bool.Decides.{nat_tests}
+use Rattle.std.proofs.Common.{◌≡◌, ℕ, ◌+◌, ◌-◌, ◌<◌, ◌≤◌, Bool, true, false, cond, not, ◌&&◌, ◌||◌, List, [], ◌∷◌, ◌++◌, map, Option, Some, None, is_some, refl, sym, ◌∙◌, ap, subst, inl, inr, ◌⊎◌, arith, eqb}
+use Rattle.std.specs.Prelude.{find, filter, nat_eq, is_none, sum_by}
 use Rattle.std.proofs.lemmas.List.Sums.{sum_by-cons}
 use Rattle.delf_model.specs.declared.rows.ObjectRow.{ObjectRow}
-use Rattle.delf_model.specs.declared.rows.EdgeKey.{EdgeKey}
 use Rattle.delf_model.specs.declared.rows.EdgeRow.{EdgeRow}
 use Rattle.delf_model.specs.declared.rows.Item.{Item}
 use Rattle.delf_model.specs.declared.rows.Item.TheVariants as item
-use Rattle.delf_model.specs.declared.entry.Entry.{Entry}
-use Rattle.delf_model.specs.declared.entry.What.{What}
 use Rattle.delf_model.specs.declared.entry.What.TheVariants.{Cut, Erase}
-use Rattle.delf_model.specs.Graph.{Graph, changed, TakesEdge, TakesObject, object_at, edge_at, edge_stands, objects_rise, has_id, has_key, is_touched, is_other_object}
-use Rattle.delf_model.specs.State.{State, JobRow, Logged, Owners, owner, owned, owner_in, owners_after, step, is_restored, job_row, jobs_after, items_after, key_of, starts_at, erased_at, is_job, is_owned_by, unhandled, birth_of, edge_item, object_item, condemns, job_of}
-use Rattle.delf_model.specs.Legal.{room, owed, room_limit, owed_for_edge, owed_for_job, owed_for_item, is_legal}
-use Rattle.job_table.specs.Table.{Table, IsTableOf, Keeps, starts_rise, owner_among, owned_among, id_of_owner, id_of}
+use Rattle.delf_model.specs.Graph.{changed, TakesEdge, TakesObject, object_at, edge_at, edge_stands, has_id, is_touched, is_other_object}
+use Rattle.delf_model.specs.State.{State, JobRow, Logged, owner, owned, owner_in, step, is_restored, jobs_after, items_after, key_of, starts_at, erased_at, is_job, is_owned_by, unhandled, birth_of, edge_item, object_item, condemns, job_of}
+use Rattle.delf_model.specs.Legal.{owed, owed_for_edge, owed_for_job, owed_for_item, is_legal}
+use Rattle.job_table.specs.Table.{Table, IsTableOf, Keeps, starts_rise, owner_among, owned_among}
 use Rattle.job_table.specs.Parts.{changed_first}
-use Rattle.job_table.specs.Notes.{noted, noted_item}
+use Rattle.job_table.specs.Notes.{noted_item}
 use Rattle.job_table.proofs.Lookups.{both}
 use Rattle.job_table.proofs.Passing.{one_if, no_owner}
-use Rattle.job_table.proofs.Steps.{Ordered, ids_after, eqb_is, eqb_self, edge_key_is}
-use Rattle.job_table.proofs.Totals.{total, weighed, objects_rise_filter}
+use Rattle.job_table.proofs.Steps.{Ordered, ids_after, eqb_is}
+use Rattle.job_table.proofs.Totals.{weighed, objects_rise_filter}
 use Rattle.job_table.proofs.Moves.{Same, Gained, Dropped, cut_same, cut_gained, dropped_moved, gained_pairs, dropped_pairs}
 use Rattle.job_table.proofs.Rows.{is_restored-erased, starts_wider, starts_map, owed_items-same, owed_items-push, owed_jobs-same, changed_is_map, erased_other}
 use Rattle.job_table.proofs.Accounts.{allowed, assembled, counts_gained, counts_dropped, pairs_push, owes, owned_total, counts_for, is_job_self}
@@ -59,7 +55,7 @@ pub owns_one : (s : State) (id job : ℕ) → Ordered s.graph → Keeps s → ow
 owns_one s id job o k e =
     let row = owned_there s id job k e in
     let weight : weighed (counts_for job) s.owners row.0 ≡ 1 =
-        ap (λ (n : ℕ). counts_for job (owner_in s.owners n)) (find_id id row.0 s.graph.objects row.1) ∙ ap (counts_for job) e ∙ ap one_if (is_job_self job) in
+    ap (λ (n : ℕ). counts_for job (owner_in s.owners n)) (find_id id row.0 s.graph.objects row.1) ∙ ap (counts_for job) e ∙ ap one_if (is_job_self job) in
     omega (arith, owned_total job s k o.objects, at_least (weighed (counts_for job) s.owners) id row.0 s.graph.objects row.1, weight)
 
 -- so it is not restored
@@ -127,6 +123,7 @@ cut_facts s m job edge from to o k l =
     pick true b e f h = inl (owner_is job (owner s from) e)
     pick false true e f h = inr (owner_is job (owner s to) f)
     pick false false e f h = absurd (cc h)
+
     idle : (owner s from ≡ Some job) ⊎ (owner s to ≡ Some job) → is_restored s.jobs job ≡ false
     idle (inl e) = owner_idle s from job o k e
     idle (inr e) = owner_idle s to job o k e
@@ -147,8 +144,13 @@ pub cut_owed_rest : (s : State) (m job edge from to : ℕ) → Ordered s.graph �
     sum_by (owed_for_item (jobs_after s m (Cut job edge from to))) (items_after s (Cut job edge from to)) + 1 ≡
     sum_by owed_for_edge s.graph.edges + sum_by owed_for_job s.jobs + sum_by (owed_for_item s.jobs) s.items
 cut_owed_rest s m job edge from to o f =
-    omega (arith, unlink_edges s (key_of edge from to) o (cut_stands s m job edge from to f), erased_jobs_owed s job m,
-    ap (sum_by (owed_for_item (map (erased_at job m) s.jobs))) (cut_items s m job edge from to f), logged_owed s job m (cut_item s job f.row) f.idle)
+    omega (
+      arith,
+      unlink_edges s (key_of edge from to) o (cut_stands s m job edge from to f),
+      erased_jobs_owed s job m,
+      ap (sum_by (owed_for_item (map (erased_at job m) s.jobs))) (cut_items s m job edge from to f),
+      logged_owed s job m (cut_item s job f.row) f.idle,
+    )
 
 pub cut_plain : (s : State) (m job edge from to : ℕ) → Keeps s → CutFacts s m job edge from to → passes s edge from to ≡ false →
     Same s.owners s.graph.objects (step s (record { moment = m; what = Cut job edge from to })).owners s.graph.objects
@@ -207,7 +209,7 @@ cut_passing_step s m job edge from to t o h f p =
     let next = step s (record { moment = m; what = Cut job edge from to }) in
     let g = cut_passing s m job edge from to o h.keeps f p in
     let counts = counts_gained s.owners next.owners s.graph.objects s.graph.objects h.keeps.ids
-        (ids_after s.rules s.graph (changed s.graph (TakesEdge (key_of edge from to))) None s.len s.owners s.graph.objects) o.objects o.objects to job g in
+    (ids_after s.rules s.graph (changed s.graph (TakesEdge (key_of edge from to))) None s.len s.owners s.graph.objects) o.objects o.objects to job g in
     assembled s (record { moment = m; what = Cut job edge from to })
     (record (noted_item t m job (cut_item s job f.row) (t.owed - 3)) { owners = t.owners ++ (to, job) ∷ [] }) h.keeps
     (ap (λ (n : ℕ). n + 1) h.len) refl (omega (arith, h.owed, less))
@@ -249,8 +251,13 @@ erase_dropped s m job id o k f = dropped_moved s.rules s.graph id job s.len s.ow
 pub erase_owed : (s : State) (m job id : ℕ) → Ordered s.graph → Keeps s → EraseFacts s job id →
     owed (step s (record { moment = m; what = Erase job id })) + 1 ≡ owed s
 erase_owed s m job id o k f =
-    omega (arith, (erase_dropped s m job id o k f).weight owes, erased_jobs_owed s job m,
-    ap (sum_by (owed_for_item (map (erased_at job m) s.jobs))) (erase_items s job id f), logged_owed s job m (item.Object job f.row) f.idle)
+    omega (
+      arith,
+      (erase_dropped s m job id o k f).weight owes,
+      erased_jobs_owed s job m,
+      ap (sum_by (owed_for_item (map (erased_at job m) s.jobs))) (erase_items s job id f),
+      logged_owed s job m (item.Object job f.row) f.idle,
+    )
 
 pub erase_step : (s : State) (m job id : ℕ) (t : Table) (left : List (ℕ × ℕ)) → Ordered s.graph → IsTableOf s t → (f : EraseFacts s job id) →
     ((other : ℕ) → owner_among left other ≡ cond (nat_eq other id) None (owner_among t.owners other)) →
@@ -262,12 +269,12 @@ erase_step s m job id t left o h f owners owned' =
     let rows = filter (is_other_object id) s.graph.objects in
     let g = erase_dropped s m job id o h.keeps f in
     let counts = counts_dropped s.owners next.owners s.graph.objects rows h.keeps.ids
-        (ids_after s.rules s.graph (changed s.graph (TakesObject id)) None s.len s.owners rows) o.objects (objects_rise_filter id s.graph.objects o.objects) id job g in
+    (ids_after s.rules s.graph (changed s.graph (TakesObject id)) None s.len s.owners rows) o.objects (objects_rise_filter id s.graph.objects o.objects) id job g in
     assembled s (record { moment = m; what = Erase job id }) (record (noted_item t m job (item.Object job f.row) (t.owed - 1)) { owners = left }) h.keeps
     (ap (λ (n : ℕ). n + 1) h.len) refl (omega (arith, h.owed, less))
     (dropped_pairs id job s.owners next.owners s.graph.objects rows t.owners left g h.owners owners)
     (λ other. let was : cond (is_job other (owner_among t.owners id)) 1 0 ≡ one_if (nat_eq job other) = ap (λ (v : Option ℕ). one_if (is_job other v)) (h.owners id ∙ f.owns) in
-        omega (arith, owned' other, was, h.owned other, counts other))
+    omega (arith, owned' other, was, h.owned other, counts other))
     (ap (λ (l : List Logged). l ++ unhandled (item.Object job f.row) ∷ []) h.items ∙ sym (erase_items s job id f))
     (ap (changed_first (starts_at job) (erased_at job m)) h.jobs ∙ changed_is_map (erased_at job m) job 0 s.len s.jobs (erased_other job m) h.keeps.starts) h.seats (omega (arith, less, h.keeps.within))
     (starts_erased s job m h.keeps)

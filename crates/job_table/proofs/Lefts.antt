@@ -1,5 +1,5 @@
-use Rattle.std.proofs.Common.{◌≡◌, ℕ, zero, suc, ◌+◌, ◌<◌, ◌≤◌, Bool, true, false, cond, ◌&&◌, not, List, ◌∷◌, [], Option, Some, None, is_some, refl, sym, ◌∙◌, ap, subst, arith}
-use Rattle.std.specs.Prelude.{nat_eq, nat_lt, is_none, count_by, sum_by, slice_get, find}
+use Rattle.std.proofs.Common.{◌≡◌, ℕ, zero, suc, ◌<◌, ◌≤◌, Bool, true, false, cond, ◌&&◌, not, List, ◌∷◌, [], Option, Some, None, is_some, refl, sym, ◌∙◌, ap, arith}
+use Rattle.std.specs.Prelude.{nat_eq, nat_lt, is_none, count_by, sum_by, slice_get}
 use Rattle.std.proofs.lemmas.Bool.Decides.{nat_tests}
 use Rattle.std.proofs.lemmas.Grind.{common_steps}
 use Rattle.std.specs.Prelude.{option_and_then}
@@ -11,7 +11,7 @@ use Rattle.delf_model.specs.declared.ids.JobName.{JobName}
 use Rattle.job_table.proofs.Rows.{job_row_is}
 use Rattle.delf_model.specs.declared.call.Status.{Status}
 use Rattle.delf_model.specs.declared.call.Status.TheVariants.{Pending, Done, Restoring, Restored, Purged}
-use Rattle.delf_model.specs.State.{State, JobRow, Logged, job_of, left, is_open_of, is_restored, is_restored_row, job_row, starts_at, find_job}
+use Rattle.delf_model.specs.State.{State, JobRow, Logged, job_of, left, is_open_of, is_restored, is_restored_row, job_row, find_job}
 use Rattle.job_table.specs.Table.{starts_rise}
 use Rattle.job_table.specs.Items.{is_unhandled_of}
 use Rattle.job_table.proofs.Lookups.{both}

@@ -1,6 +1,5 @@
-use Rattle.std.proofs.Common.{◌≡◌, ℕ, zero, suc, ◌+◌, ◌-◌, ◌<◌, ◌≤◌, Bool, true, false, cond, ◌&&◌, List, ◌∷◌, ◌++◌, [], map, length, get_or, take, Option, Some, None, is_some, refl, sym, ◌∙◌, ap, subst, arith, append_assoc}
+use Rattle.std.proofs.Common.{◌≡◌, ℕ, zero, suc, ◌+◌, ◌-◌, ◌<◌, ◌≤◌, Bool, true, false, cond, ◌&&◌, List, ◌∷◌, ◌++◌, [], map, length, get_or, take, Option, Some, None, is_some, refl, sym, ◌∙◌, ap, arith, append_assoc}
 use Rattle.std.specs.Prelude.{nat_eq, slice_get}
-use Rattle.std.proofs.lemmas.Bool.Decides.{nat_tests}
 use Rattle.delf_model.specs.declared.call.Listed.{Listed}
 use Rattle.delf_model.specs.declared.call.Cause.{Cause}
 use Rattle.delf_model.specs.State.{Logged, Handled}
@@ -21,9 +20,11 @@ listing_is job n y = go (is_of_job job y) y.handled
     inner : (h : Option Cause) → listed_with n y.item h ≡ list_of (listing_with n y.item h)
     inner None = refl
     inner (Some c) = refl
+
     by : (h : Option Handled) → listed_by n y.item h ≡ list_of (listing_by n y.item h)
     by None = refl
     by (Some how) = inner how.cause
+
     go : (b : Bool) (h : Option Handled) → cond b (listed_by n y.item h) [] ≡ list_of (cond b (listing_by n y.item h) None)
     go true h = by h
     go false h = refl

@@ -1,13 +1,12 @@
-use Rattle.std.proofs.Common.{◌≡◌, ℕ, zero, suc, ◌+◌, ◌<◌, ◌≤◌, Bool, true, false, cond, not, ◌&&◌, ◌||◌, List, [], ◌∷◌, ◌++◌, map, Option, Some, None, is_some, refl, sym, ◌∙◌, ap, subst, arith, ltb, eqb}
-use Rattle.std.specs.Prelude.{find, filter, option_map, option_and_then, nat_eq, nat_lt, IsTrue}
+use Rattle.std.proofs.Common.{◌≡◌, ℕ, Bool, true, false, cond, ◌&&◌, ◌||◌, List, [], ◌∷◌, map, Option, Some, None, is_some, refl, ◌∙◌, ap, arith, eqb}
+use Rattle.std.specs.Prelude.{find, filter, option_map}
 use Rattle.std.specs.List.{list_all}
 use Rattle.std.proofs.lemmas.Bool.Decides.{nat_tests}
 use Rattle.std.proofs.lemmas.Grind.{common_steps}
 use Rattle.delf_model.specs.declared.rows.ObjectRow.{ObjectRow}
 use Rattle.delf_model.specs.declared.rows.EdgeKey.{EdgeKey}
 use Rattle.delf_model.specs.declared.rows.EdgeRow.{EdgeRow}
-use Rattle.delf_model.specs.Graph.{has_id, has_key, same_key, put_object, put_edge, is_other_object, is_other_edge, rewritten, key_before}
-use Rattle.delf_model.specs.State.{Owners, owns_of, owner_in, owner_of_pair}
+use Rattle.delf_model.specs.Graph.{has_id, has_key, same_key, put_object, put_edge, is_other_object, is_other_edge, rewritten}
 
 -- look-ups after a change of a list
 
@@ -93,6 +92,7 @@ found_after_take key xs =
   where
     flips : (k : EdgeKey) → same_key key k ≡ true → same_key k key ≡ true
     flips k e = grind (arith, nat_tests, common_steps)
+
     part : (a b : Bool) (o f : Option EdgeRow) → f ≡ cond b None o → (b ≡ true → a ≡ true) → is_some o ≡ true → (a || is_some f) ≡ true
     part true b o f e g h = refl
     part false true o f e g h = absurd (cc (g refl))

@@ -1,18 +1,15 @@
-use Rattle.std.proofs.Common.{◌≡◌, ℕ, zero, suc, ◌+◌, ◌<◌, ◌≤◌, Bool, true, false, cond, not, ◌&&◌, ◌||◌, List, [], ◌∷◌, ◌++◌, map, Option, Some, None, is_some, refl, sym, ◌∙◌, ap, subst, inl, inr, ◌⊎◌, arith, ltb, eqb}
-use Rattle.std.specs.Prelude.{find, filter, option_map, option_and_then, nat_eq, nat_lt, is_none, sum_by, count_by}
-use Rattle.std.specs.List.{list_all, list_any}
+use Rattle.std.proofs.Common.{◌≡◌, ℕ, ◌+◌, Bool, true, false, cond, ◌&&◌, List, [], ◌∷◌, ◌++◌, map, Option, Some, None, is_some, refl, sym, ◌∙◌, ap, arith}
+use Rattle.std.specs.Prelude.{find, filter, option_map, nat_eq, is_none}
 use Rattle.std.proofs.lemmas.Bool.Decides.{nat_tests}
 use Rattle.std.proofs.lemmas.Grind.{common_steps}
-use Rattle.std.proofs.lemmas.List.Sums.{sum_by-cons, sum_by_push}
 use Rattle.delf_model.specs.declared.rows.ObjectRow.{ObjectRow}
 use Rattle.delf_model.specs.declared.rows.EdgeKey.{EdgeKey}
-use Rattle.delf_model.specs.declared.rows.EdgeRow.{EdgeRow}
 use Rattle.delf_model.specs.RuleSet.{RuleSet}
-use Rattle.delf_model.specs.Graph.{Graph, TakesEdge, TakesObject, PutsObject, RewritesObject, changed, has_id, object_at, edge_stands, objects_rise, put_object, is_other_object, rewritten}
-use Rattle.delf_model.specs.State.{Owners, owner_in, owners_after, first_of_two, first_passed, condemns, is_job}
-use Rattle.job_table.specs.Table.{id_of_owner, id_of, is_of_id, job_of_pair, owner_among, owned_among, is_of_owner}
-use Rattle.job_table.proofs.Passing.{no_owner, passed_by, one_if}
-use Rattle.job_table.proofs.Steps.{ObjectsStay, EdgesStay, stay_same, owner_same, owner_root, owner_root_other, owner_cut, owner_unpassed, owner_lost, owner_staying, owner_new, owner_kept, eqb_self, eqb_is, first_with_none}
+use Rattle.delf_model.specs.Graph.{Graph, TakesEdge, TakesObject, PutsObject, RewritesObject, changed, object_at, edge_stands, objects_rise, put_object, is_other_object, rewritten}
+use Rattle.delf_model.specs.State.{Owners, owner_in, owners_after, first_of_two, first_passed, condemns}
+use Rattle.job_table.specs.Table.{id_of_owner, id_of, is_of_id, job_of_pair, owner_among}
+use Rattle.job_table.proofs.Passing.{no_owner, passed_by}
+use Rattle.job_table.proofs.Steps.{ObjectsStay, EdgesStay, stay_same, owner_same, owner_root, owner_root_other, owner_cut, owner_unpassed, owner_lost, owner_staying, eqb_self, eqb_is, first_with_none}
 use Rattle.job_table.proofs.Totals.{total, total_same, total_put, total_rewritten, total_filter, total_change, none_left}
 use Rattle.job_table.proofs.Lookups.{find-rewritten, find-put_object, find-filter_object, all_found}
 
@@ -45,8 +42,8 @@ pub same_moved : (rules : RuleSet) (g now : Graph) (p : ℕ) (owners : Owners) �
 same_moved rules g now p owners ids e edges = record {
   owner = owner_same rules g now p owners ids (stay_same g now e) edges;
   weight = λ h.
-    ap (λ (rows : List ObjectRow). total h (owners_after rules g now None p owners) rows) e
-    ∙ total_same h owners (owners_after rules g now None p owners) g.objects (owner_same rules g now p owners ids (stay_same g now e) edges);
+      ap (λ (rows : List ObjectRow). total h (owners_after rules g now None p owners) rows) e
+      ∙ total_same h owners (owners_after rules g now None p owners) g.objects (owner_same rules g now p owners ids (stay_same g now e) edges);
 }
 
 pub gained_moved : (rules : RuleSet) (g now : Graph) (root p : ℕ) (owners : Owners) (row : ObjectRow) → map id_of_owner owners ≡ map id_of g.objects →
@@ -58,15 +55,16 @@ gained_moved rules g now root p owners row ids rise e f n edges = record {
   owner = at;
   others = rest;
   weight = λ h.
-    let a = ap (λ (rows : List ObjectRow). total h (owners_after rules g now (Some root) p owners) rows) e in
-    let b = total_change h owners (owners_after rules g now (Some root) p owners) root row g.objects rise f rest in
-    let k : h (owner_in owners root) ≡ h None = ap h n in
-    let l : h (owner_in (owners_after rules g now (Some root) p owners) root) ≡ h (Some p) = ap h at in
-    omega (arith, a, b, k, l);
+      let a = ap (λ (rows : List ObjectRow). total h (owners_after rules g now (Some root) p owners) rows) e in
+      let b = total_change h owners (owners_after rules g now (Some root) p owners) root row g.objects rise f rest in
+      let k : h (owner_in owners root) ≡ h None = ap h n in
+      let l : h (owner_in (owners_after rules g now (Some root) p owners) root) ≡ h (Some p) = ap h at in
+      omega (arith, a, b, k, l);
 }
   where
     at : owner_in (owners_after rules g now (Some root) p owners) root ≡ Some p
     at = owner_root rules g now root p owners row (stay_same g now e) f n
+
     rest : (id : ℕ) → (id ≡ root → ⊥) → owner_in (owners_after rules g now (Some root) p owners) id ≡ owner_in owners id
     rest = owner_root_other rules g now root p owners ids (stay_same g now e) edges
 
@@ -77,8 +75,8 @@ pub unpassed_moved : (rules : RuleSet) (g now : Graph) (p : ℕ) (owners : Owner
 unpassed_moved rules g now p owners ids e edges = record {
   owner = owner_unpassed rules g now p owners ids (stay_same g now e) edges;
   weight = λ h.
-    ap (λ (rows : List ObjectRow). total h (owners_after rules g now None p owners) rows) e
-    ∙ total_same h owners (owners_after rules g now None p owners) g.objects (owner_unpassed rules g now p owners ids (stay_same g now e) edges);
+      ap (λ (rows : List ObjectRow). total h (owners_after rules g now None p owners) rows) e
+      ∙ total_same h owners (owners_after rules g now None p owners) g.objects (owner_unpassed rules g now p owners ids (stay_same g now e) edges);
 }
 
 -- a row is rewritten
@@ -95,8 +93,10 @@ rewritten_moved rules g id at size p owners ids = record {
         go : (b : Bool) → (cond b (record row { at = at; size = size }) row).birth ≡ row.birth
         go true = refl
         go false = refl
+
     stay : ObjectsStay g (changed g (RewritesObject id at size))
     stay other row e = (rewritten id at size row, find-rewritten id at size other g.objects ∙ ap (option_map (rewritten id at size)) e, birth row)
+
     same : (other : ℕ) → owner_in (owners_after rules g (changed g (RewritesObject id at size)) None p owners) other ≡ owner_in owners other
     same = owner_same rules g (changed g (RewritesObject id at size)) p owners ids stay (all_found g.edges)
 
@@ -111,8 +111,10 @@ added_moved rules g row p owners ids n = record {
     other_row : (b : Bool) (id : ℕ) (found : ObjectRow) → nat_eq row.id id ≡ b → object_at g id ≡ Some found → cond b (Some row) (object_at g id) ≡ Some found
     other_row true id found h e = absurd (let q : object_at g row.id ≡ object_at g id = ap (object_at g) (eqb_is row.id id h) in cc (q, n, e))
     other_row false id found h e = e
+
     stay : ObjectsStay g (changed g (PutsObject row))
     stay id found e = (found, find-put_object row id g.objects ∙ other_row (nat_eq row.id id) id found refl e, refl)
+
     same : (id : ℕ) → owner_in (owners_after rules g (changed g (PutsObject row)) None p owners) id ≡ owner_in owners id
     same = owner_same rules g (changed g (PutsObject row)) p owners ids stay (all_found g.edges)
 
@@ -125,14 +127,15 @@ dropped_moved rules g id job p owners row ids rise f own = record {
   owner = owner_lost rules g (changed g (TakesObject id)) None p owners id (none_left id g.objects);
   others = rest;
   weight = λ h.
-    let a = total_filter h owners (owners_after rules g (changed g (TakesObject id)) None p owners) id row g.objects rise f rest in
-    let b : h (owner_in owners id) ≡ h (Some job) = ap h own in
-    omega (arith, a, b);
+      let a = total_filter h owners (owners_after rules g (changed g (TakesObject id)) None p owners) id row g.objects rise f rest in
+      let b : h (owner_in owners id) ≡ h (Some job) = ap h own in
+      omega (arith, a, b);
 }
   where
     off : (b : Bool) (other : ℕ) → nat_eq id other ≡ b → (other ≡ id → ⊥) → cond b None (object_at g other) ≡ object_at g other
     off true other h ne = absurd (ne (sym (eqb_is id other h)))
     off false other h ne = refl
+
     rest : (other : ℕ) → (other ≡ id → ⊥) → owner_in (owners_after rules g (changed g (TakesObject id)) None p owners) other ≡ owner_in owners other
     rest other ne =
         owner_staying rules g (changed g (TakesObject id)) p owners other ids
@@ -148,22 +151,25 @@ cut_gained rules g key job p owners row ids rise e f n from c = record {
   owner = at;
   others = rest;
   weight = λ h.
-    let b = total_change h owners (owners_after rules g (changed g (TakesEdge key)) None p owners) key.to row g.objects rise f rest in
-    let k : h (owner_in owners key.to) ≡ h None = ap h n in
-    let l : h (owner_in (owners_after rules g (changed g (TakesEdge key)) None p owners) key.to) ≡ h (Some job) = ap h at in
-    omega (arith, b, k, l);
+      let b = total_change h owners (owners_after rules g (changed g (TakesEdge key)) None p owners) key.to row g.objects rise f rest in
+      let k : h (owner_in owners key.to) ≡ h None = ap h n in
+      let l : h (owner_in (owners_after rules g (changed g (TakesEdge key)) None p owners) key.to) ≡ h (Some job) = ap h at in
+      omega (arith, b, k, l);
 }
   where
     law : (id : ℕ) → owner_in (owners_after rules g (changed g (TakesEdge key)) None p owners) id ≡
         first_of_two (owner_in owners id) (passed_by rules (changed g (TakesEdge key)) owners id key)
     law = owner_cut rules g p owners key ids e (ap is_some f)
+
     at : owner_in (owners_after rules g (changed g (TakesEdge key)) None p owners) key.to ≡ Some job
     at = law key.to ∙ ap (λ (o : Option ℕ). first_of_two o (passed_by rules (changed g (TakesEdge key)) owners key.to key)) n
         ∙ ap (λ (b : Bool). cond (b && condemns rules (changed g (TakesEdge key)) key) (owner_in owners key.from) None) (eqb_self key.to)
         ∙ ap (λ (b : Bool). cond b (owner_in owners key.from) None) c ∙ from
+
     off : (b d : Bool) (v : Option ℕ) → (b ≡ true → ⊥) → cond (b && d) v None ≡ None
     off true d v h = absurd (h refl)
     off false d v h = refl
+
     rest : (id : ℕ) → (id ≡ key.to → ⊥) → owner_in (owners_after rules g (changed g (TakesEdge key)) None p owners) id ≡ owner_in owners id
     rest id ne =
         law id ∙ ap (first_of_two (owner_in owners id)) (off (nat_eq key.to id) (condemns rules (changed g (TakesEdge key)) key) (owner_in owners key.from) (λ h. ne (sym (eqb_is key.to id h))))
@@ -183,12 +189,14 @@ cut_same rules g key p owners ids e t n = record {
     keep None true v h = absurd (cc h)
     keep None false v h = refl
     keep (Some j) d v h = refl
+
     pass : (b : Bool) (id : ℕ) → nat_eq key.to id ≡ b →
         first_of_two (owner_in owners id) (cond (b && condemns rules (changed g (TakesEdge key)) key) (owner_in owners key.from) None) ≡ owner_in owners id
     pass true id h =
         keep (owner_in owners id) (condemns rules (changed g (TakesEdge key)) key) (owner_in owners key.from)
         (ap (λ (k : ℕ). is_none (owner_in owners k) && condemns rules (changed g (TakesEdge key)) key) (sym (eqb_is key.to id h)) ∙ n)
     pass false id h = first_with_none (owner_in owners id)
+
     same : (id : ℕ) → owner_in (owners_after rules g (changed g (TakesEdge key)) None p owners) id ≡ owner_in owners id
     same id = owner_cut rules g p owners key ids e t id ∙ pass (nat_eq key.to id) id refl
 
@@ -206,6 +214,7 @@ owner_among-push id job other (x ∷ xs) n =
   where
     apart : (a b d : ℕ) → nat_eq a d ≡ true → nat_eq a b ≡ false → nat_eq b d ≡ false
     apart a b d e f = grind (arith, nat_tests, common_steps)
+
     go : (b : Bool) → nat_eq x.0 other ≡ b → (d : Bool) → nat_eq x.0 id ≡ d →
         option_map job_of_pair (cond d (Some x) (find (is_of_id id) xs)) ≡ None →
         (owner_among xs id ≡ None → owner_among (xs ++ (id, job) ∷ []) other ≡ cond (nat_eq id other) (Some job) (owner_among xs other)) →

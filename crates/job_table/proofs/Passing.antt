@@ -1,5 +1,5 @@
-use Rattle.std.proofs.Common.{◌≡◌, ℕ, zero, suc, ◌+◌, ◌<◌, ◌≤◌, Bool, true, false, cond, not, ◌&&◌, ◌||◌, List, [], ◌∷◌, ◌++◌, map, Option, Some, None, is_some, refl, sym, ◌∙◌, ap, subst, inl, inr, ◌⊎◌, arith, ltb, eqb}
-use Rattle.std.specs.Prelude.{find, filter, option_map, option_and_then, nat_eq, nat_lt, IsTrue, sum_by, count_by}
+use Rattle.std.proofs.Common.{◌≡◌, ℕ, ◌<◌, Bool, true, false, cond, not, ◌&&◌, ◌||◌, List, [], ◌∷◌, map, Option, Some, None, is_some, refl, sym, ◌∙◌, ap, subst, inl, inr, ◌⊎◌, arith, eqb}
+use Rattle.std.specs.Prelude.{find, option_and_then, nat_eq, sum_by, count_by}
 use Rattle.std.specs.List.{list_all}
 use Rattle.std.proofs.lemmas.Bool.Decides.{nat_tests}
 use Rattle.std.proofs.lemmas.Grind.{common_steps}
@@ -8,11 +8,11 @@ use Rattle.delf_model.specs.declared.rows.ObjectRow.{ObjectRow}
 use Rattle.delf_model.specs.declared.rows.EdgeKey.{EdgeKey}
 use Rattle.delf_model.specs.declared.rows.EdgeRow.{EdgeRow}
 use Rattle.delf_model.specs.RuleSet.{RuleSet}
-use Rattle.delf_model.specs.Graph.{Graph, has_id, has_key, same_key, object_at, edge_at, edge_stands, stands, is_born_at, rises_after, objects_rise, is_other_edge}
-use Rattle.delf_model.specs.State.{State, Owners, owner, owns_of, owner_in, owner_of_pair, is_job, is_pair_of, next_owner, owned_row, owners_after, first_of_two, root_owner, first_passed, passed_owner, condemns}
+use Rattle.delf_model.specs.Graph.{Graph, has_id, has_key, same_key, edge_stands, objects_rise}
+use Rattle.delf_model.specs.State.{Owners, owns_of, owner_in, owner_of_pair, is_job, is_pair_of, next_owner, owned_row, first_of_two, first_passed, condemns}
 use Rattle.job_table.specs.Table.{id_of_owner, id_of}
-use Rattle.job_table.proofs.Lookups.{find_is, same_key_is, same_key_self, both}
-use Rattle.job_table.proofs.Sums.{sum_by-same_after, none_after, rises_tail}
+use Rattle.job_table.proofs.Lookups.{same_key_is, both}
+use Rattle.job_table.proofs.Sums.{sum_by-same_after, rises_tail}
 
 -- the owner of an object after an entry is that of its row
 
@@ -71,8 +71,8 @@ owned_is job (p ∷ ps) (x ∷ xs) e o =
     let head : p.0 ≡ x.id = cc e in
     let more = owned_is job ps xs tail (rises_tail x.id xs o) in
     let rest : sum_by (counted job (p ∷ ps)) xs ≡ sum_by (counted job ps) xs =
-        sum_by-same_after (counted job (p ∷ ps)) (counted job ps) x.id xs o
-        (λ y h. ap (λ (v : Option ℕ). one_if (is_job job v)) (owner_in_rest p ps y.id (subst (λ (n : ℕ). n < y.id) (sym head) h))) in
+    sum_by-same_after (counted job (p ∷ ps)) (counted job ps) x.id xs o
+    (λ y h. ap (λ (v : Option ℕ). one_if (is_job job v)) (owner_in_rest p ps y.id (subst (λ (n : ℕ). n < y.id) (sym head) h))) in
     let first : counted job (p ∷ ps) x ≡ one_if (is_pair_of job p) = grind (arith, nat_tests, common_steps, head) in
     omega (arith, sum_by-cons (λ (q : ℕ × Option ℕ). one_if (is_pair_of job q)) p ps, sum_by-cons (counted job (p ∷ ps)) x xs, more, rest, first)
 

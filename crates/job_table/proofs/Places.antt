@@ -1,23 +1,19 @@
-use Rattle.std.proofs.Common.{◌≡◌, ℕ, zero, suc, ◌+◌, ◌-◌, ◌<◌, ◌≤◌, Bool, true, false, cond, ◌&&◌, ◌||◌, not, List, ◌∷◌, ◌++◌, [], map, length, get_or, take, drop, set, Option, Some, None, is_some, refl, sym, ◌∙◌, ap, subst, arith, add-one}
-use Rattle.std.specs.Prelude.{nat_eq, nat_lt, max, find, option_map, slice_get, sum_by, count_by}
+use Rattle.std.proofs.Common.{◌≡◌, ℕ, zero, suc, ◌+◌, ◌<◌, ◌≤◌, Bool, true, false, cond, ◌&&◌, ◌||◌, not, List, ◌∷◌, ◌++◌, [], map, length, get_or, take, set, Option, Some, None, refl, sym, ◌∙◌, ap, subst, arith, add-one}
+use Rattle.std.specs.Prelude.{nat_eq, nat_lt, max, find, option_map, sum_by}
 use Rattle.std.specs.List.{remove, position, position_or_len, list_any}
 use Rattle.std.proofs.lemmas.List.Quantifiers.{position-Some}
 use Rattle.std.proofs.lemmas.Bool.Decides.{nat_tests}
-use Rattle.std.proofs.lemmas.Grind.{common_steps}
 use Rattle.std.proofs.lemmas.List.Sums.{sum_by-cons, fails_before_first, sum_by_more, sum_by_more_le}
 use Rattle.delf_model.specs.declared.entry.What.{What}
 use Rattle.delf_model.specs.declared.ids.JobName.{JobName}
-use Rattle.delf_model.specs.declared.call.Listed.{Listed}
 use Rattle.delf_model.specs.State.{JobRow, Logged, Handled, job_row, starts_at, handled_at, find_job, last_of, named_start, same_name, is_job}
 use Rattle.delf_model.specs.Order.{erases_same}
-use Rattle.delf_model.specs.Report.{listed_from, listed_by, is_of_job}
 use Rattle.job_table.specs.Table.{given_up, greatest, owner_among, owned_among, is_of_id, is_of_owner, job_of_pair}
 use Rattle.job_table.specs.Parts.{changed_first, row_of, pair_of, is_start, is_owned_id, logged_of, handled_of, ItemPart, JobPart, OwnerPart, SeatPart, ClaimPart}
 use Rattle.job_table.specs.declared.items.Kept.{Kept}
 use Rattle.job_table.specs.declared.items.Handling.{Handling}
 use Rattle.job_table.specs.declared.jobs.Row.{Row}
 use Rattle.job_table.specs.declared.owners.Owned.{Owned}
-use Rattle.job_table.specs.Items.{listing_of, listing_by, listing_with}
 use Rattle.job_table.specs.Apart.{are_apart}
 
 -- a place below the length of a longer list
@@ -230,6 +226,7 @@ owned_without id job (x ∷ xs) = go (nat_eq x.0 id) (owned_without id job xs)
   where
     one : Bool → ℕ
     one b = cond b 1 0
+
     go : (a : Bool) → owned_among (without id xs) job + cond (is_job job (owner_among xs id)) 1 0 ≡ owned_among xs job →
         owned_among (cond a xs (x ∷ without id xs)) job + cond (is_job job (option_map job_of_pair (cond a (Some x) (find (is_of_id id) xs)))) 1 0 ≡ owned_among (x ∷ xs) job
     go true more = omega (arith, sum_by-cons (λ (p : ℕ × ℕ). one (is_of_owner job p)) x xs)
@@ -293,8 +290,8 @@ own_apart pairs after now spare id job v n h a =
 -- an object is disowned
 
 module _ (pairs slice after : List Owned) (now : OwnerPart) (spare id i : ℕ) (d : Owned) (e : slice ≡ pairs)
-  (v : record { list = map pair_of pairs; spare = spare } ≡ now) (p : Some i ≡ position (is_owned_id id) slice) (a : after ≡ remove pairs i)
-  (h : are_apart (map pair_of pairs) ≡ true) where
+    (v : record { list = map pair_of pairs; spare = spare } ≡ now) (p : Some i ≡ position (is_owned_id id) slice) (a : after ≡ remove pairs i)
+    (h : are_apart (map pair_of pairs) ≡ true) where
   pub disowned : map pair_of after ≡ without id (map pair_of pairs)
   disowned =
       let q : Some i ≡ position (is_owned_id id) pairs = p ∙ ap (position (is_owned_id id)) e in

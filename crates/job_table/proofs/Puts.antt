@@ -1,23 +1,20 @@
-use Rattle.std.proofs.Common.{◌≡◌, ℕ, zero, suc, ◌+◌, ◌-◌, ◌<◌, ◌≤◌, Bool, true, false, cond, not, ◌&&◌, ◌||◌, List, [], ◌∷◌, ◌++◌, map, Option, Some, None, is_some, refl, sym, ◌∙◌, ap, subst, inl, inr, ◌⊎◌, arith, ltb, eqb, leb}
-use Rattle.std.specs.Prelude.{find, filter, nat_eq, nat_lt, nat_le, is_none, sum_by, count_by, slice_get}
+use Rattle.std.proofs.Common.{◌≡◌, ℕ, ◌+◌, ◌-◌, ◌≤◌, Bool, true, cond, ◌&&◌, List, Option, Some, None, refl, sym, ◌∙◌, ap, subst, arith}
+use Rattle.std.specs.Prelude.{nat_eq, sum_by, count_by, slice_get}
 use Rattle.delf_model.specs.declared.rows.ObjectRow.{ObjectRow}
-use Rattle.delf_model.specs.declared.rows.EdgeKey.{EdgeKey}
 use Rattle.delf_model.specs.declared.rows.EdgeRow.{EdgeRow}
 use Rattle.delf_model.specs.declared.rows.Item.{Item}
 use Rattle.delf_model.specs.declared.rows.Item.TheVariants as item
 use Rattle.delf_model.specs.declared.call.Cause.{Cause}
-use Rattle.delf_model.specs.declared.entry.Entry.{Entry}
-use Rattle.delf_model.specs.declared.entry.What.{What}
 use Rattle.delf_model.specs.declared.entry.What.TheVariants.{Put}
-use Rattle.delf_model.specs.Graph.{Graph, changed, Change, Same as Unchanged, PutsObject, PutsEdge, object_at, edge_at, edge_stands, objects_rise, put_object}
-use Rattle.delf_model.specs.State.{State, JobRow, Logged, Handled, Owners, owner, owned, owner_in, owners_after, step, is_restored, is_open, job_of, is_object_item, judged, taken, end_cause, end_condemned, key_taken, first_of_two, put_of_item, put_unless, put_change, outcome, handled_at, is_pair_of}
-use Rattle.delf_model.specs.Legal.{room, owed, room_limit, owed_for_edge, owed_for_job, owed_for_item, is_legal, may_put, ends_handled}
-use Rattle.job_table.specs.Table.{Table, IsTableOf, Keeps, starts_rise, owner_among, owned_among, id_of_owner, id_of}
-use Rattle.job_table.specs.Notes.{noted, noted_put, item_weight, row_weight, put_weight}
+use Rattle.delf_model.specs.Graph.{changed, Change, Same as Unchanged, PutsObject, PutsEdge, object_at, edge_at, objects_rise, put_object}
+use Rattle.delf_model.specs.State.{State, Logged, Handled, owners_after, step, is_open, job_of, judged, taken, end_cause, key_taken, first_of_two, put_unless, put_change, outcome, handled_at, is_pair_of}
+use Rattle.delf_model.specs.Legal.{owed, room_limit, owed_for_edge, owed_for_item, is_legal, may_put, ends_handled}
+use Rattle.job_table.specs.Table.{Table, IsTableOf}
+use Rattle.job_table.specs.Notes.{noted_put, item_weight, put_weight}
 use Rattle.job_table.proofs.Lookups.{both, all_found, found_after_put}
 use Rattle.job_table.proofs.Sums.{sum_by-put_edge}
-use Rattle.job_table.proofs.Steps.{Ordered, ids_after, EdgesStay}
-use Rattle.job_table.proofs.Totals.{objects_rise_put, total}
+use Rattle.job_table.proofs.Steps.{Ordered, ids_after}
+use Rattle.job_table.proofs.Totals.{objects_rise_put}
 use Rattle.job_table.proofs.Moves.{Same, Added, same_moved, added_moved, same_pairs, added_pairs}
 use Rattle.job_table.proofs.Rows.{starts_wider, owed_items-handled}
 use Rattle.job_table.proofs.Accounts.{allowed, counts_same, counts_added, owes}
@@ -148,8 +145,10 @@ put_case s m job i t o h f it e (Some cause) j =
   where
     g : Same s.owners s.graph.objects (owners_after s.rules s.graph s.graph None s.len s.owners) s.graph.objects
     g = same_moved s.rules s.graph s.graph s.len s.owners h.keeps.ids refl (all_found s.graph.edges)
+
     same : item_weight f.logged.item ≡ item_weight it
     same = ap item_weight e
+
     sums : sum_by (owed_for_item s.jobs) (handled_at s.items i (record { put = s.len; cause = Some cause })) + item_weight f.logged.item ≡ sum_by (owed_for_item s.jobs) s.items
     sums = items_put s job i f (record { put = s.len; cause = Some cause })
 put_case s m job i t o h f (item.Object of row) e None j =
@@ -159,8 +158,10 @@ put_case s m job i t o h f (item.Object of row) e None j =
   where
     g : Added s.owners s.graph.objects (owners_after s.rules s.graph (changed s.graph (PutsObject row)) None s.len s.owners) (put_object row s.graph.objects)
     g = added_moved s.rules s.graph row s.len s.owners h.keeps.ids (object_free s of row j)
+
     same : item_weight f.logged.item ≡ 4
     same = ap item_weight e
+
     sums : sum_by (owed_for_item s.jobs) (handled_at s.items i (record { put = s.len; cause = None })) + item_weight f.logged.item ≡ sum_by (owed_for_item s.jobs) s.items
     sums = items_put s job i f (record { put = s.len; cause = None })
 put_case s m job i t o h f (item.Edge of row a b) e None j =
@@ -170,10 +171,13 @@ put_case s m job i t o h f (item.Edge of row a b) e None j =
   where
     g : Same s.owners s.graph.objects (owners_after s.rules s.graph (changed s.graph (PutsEdge row)) None s.len s.owners) s.graph.objects
     g = same_moved s.rules s.graph (changed s.graph (PutsEdge row)) s.len s.owners h.keeps.ids refl (found_after_put row s.graph.edges)
+
     same : item_weight f.logged.item ≡ 2
     same = ap item_weight e
+
     more : sum_by owed_for_edge (changed s.graph (PutsEdge row)).edges ≡ sum_by owed_for_edge s.graph.edges + 1
     more = sum_by-put_edge owed_for_edge row s.graph.edges (edge_key_free s of row a b j)
+
     sums : sum_by (owed_for_item s.jobs) (handled_at s.items i (record { put = s.len; cause = None })) + item_weight f.logged.item ≡ sum_by (owed_for_item s.jobs) s.items
     sums = items_put s job i f (record { put = s.len; cause = None })
 

@@ -1,14 +1,13 @@
-use Rattle.std.proofs.Common.{◌≡◌, ℕ, zero, suc, ◌+◌, ◌<◌, ◌≤◌, Bool, true, false, cond, not, ◌&&◌, ◌||◌, List, [], ◌∷◌, ◌++◌, map, Option, Some, None, is_some, refl, sym, ◌∙◌, ap, subst, inl, inr, ◌⊎◌, arith, ltb, eqb}
-use Rattle.std.specs.Prelude.{find, option_map, nat_eq, nat_lt, sum_by, slice_get, is_none}
+use Rattle.std.proofs.Common.{◌≡◌, ℕ, zero, suc, ◌+◌, ◌<◌, ◌≤◌, Bool, true, false, cond, not, ◌&&◌, ◌||◌, List, [], ◌∷◌, ◌++◌, map, Option, Some, None, is_some, refl, sym, ◌∙◌, ap, arith}
+use Rattle.std.specs.Prelude.{option_map, nat_eq, nat_lt, sum_by, slice_get, is_none}
 use Rattle.std.proofs.lemmas.Bool.Decides.{nat_tests}
 use Rattle.std.proofs.lemmas.Grind.{common_steps}
 use Rattle.std.proofs.lemmas.List.Sums.{sum_by-cons, sum_by_push}
 use Rattle.delf_model.specs.declared.rows.Item.{Item}
 use Rattle.delf_model.specs.declared.ids.JobName.{JobName}
-use Rattle.delf_model.specs.State.{JobRow, Logged, Handled, job_row, starts_at, is_restored, is_restored_row, restored_at, purged_if, erased_at, new_job, is_open, job_of, is_object_item, unhandled, handled_at}
+use Rattle.delf_model.specs.State.{JobRow, Logged, Handled, job_row, starts_at, is_restored, is_restored_row, restored_at, purged_if, erased_at, new_job, job_of, is_object_item, unhandled, handled_at}
 use Rattle.delf_model.specs.Legal.{owed_for_job, owed_for_item}
 use Rattle.job_table.specs.Table.{starts_rise}
-use Rattle.job_table.specs.Items.{is_unhandled_of}
 use Rattle.job_table.specs.Notes.{weight_of}
 use Rattle.job_table.specs.Parts.{changed_first}
 use Rattle.job_table.proofs.Lookups.{both, join}
@@ -38,6 +37,7 @@ is_restored-erased job moment other rows = ap is_restored_row (job_row-erased jo
     cases : (b : Bool) (row : JobRow) → is_some (cond b (record row { last = Some moment }) row).restored ≡ is_some row.restored
     cases true row = refl
     cases false row = refl
+
     go : (o : Option JobRow) → is_restored_row (option_map (erased_at job moment) o) ≡ is_restored_row o
     go None = refl
     go (Some row) = cases (nat_eq row.start job) row
@@ -49,6 +49,7 @@ is_restored-purged job other rows = ap is_restored_row (job_row-purged job other
     cases : (b : Bool) (row : JobRow) → is_some (cond b (record row { purged = true }) row).restored ≡ is_some row.restored
     cases true row = refl
     cases false row = refl
+
     go : (o : Option JobRow) → is_restored_row (option_map (purged_if job) o) ≡ is_restored_row o
     go None = refl
     go (Some row) = cases (nat_eq row.start job) row
@@ -84,6 +85,7 @@ apart other job rows row e n = go (nat_eq other job) refl
   where
     same : nat_eq other job ≡ true → other ≡ job
     same h = grind (arith, nat_tests)
+
     go : (b : Bool) → nat_eq other job ≡ b → b ≡ false
     go true h = absurd (let q : job_row rows other ≡ job_row rows job = ap (job_row rows) (same h) in cc (q, e, n))
     go false h = refl
@@ -97,8 +99,10 @@ is_restored-restored job position other row rows e =
     pick : (b : Bool) (r : JobRow) → is_some (cond b (record r { restored = Some position }) r).restored ≡ (is_some r.restored || b)
     pick true r = or_true (is_some r.restored)
     pick false r = or_false (is_some r.restored)
+
     missing : job_row rows other ≡ None → nat_eq other job ≡ false
     missing n = apart other job rows row e n
+
     go : (o : Option JobRow) → job_row rows other ≡ o →
         is_restored_row (option_map (restored_at job position) o) ≡ (is_restored_row o || nat_eq other job)
     go None n = sym (missing n)
@@ -164,6 +168,7 @@ owed_jobs-purged job low len row (x ∷ xs) h e p =
   where
     weight : Bool → ℕ
     weight b = cond b 0 1
+
     go : (b : Bool) → nat_eq x.start job ≡ b → cond b (Some x) (job_row xs job) ≡ Some row →
         (job_row xs job ≡ Some row → row.purged ≡ false → sum_by owed_for_job (map (purged_if job) xs) + 1 ≡ sum_by owed_for_job xs) →
         (nat_eq x.start job ≡ true → sum_by owed_for_job (map (purged_if job) xs) ≡ sum_by owed_for_job xs) →
@@ -214,6 +219,7 @@ owed_items-restored old new job (x ∷ xs) e n =
   where
     same : nat_eq (job_of x.item) job ≡ true → job_of x.item ≡ job
     same h = grind (arith, nat_tests)
+
     split : (h o j r k : Bool) → r ≡ (o || j) → (j ≡ true → o ≡ false) →
         cond (h && r) (cond k 4 2) 0 ≡ cond (h && o) (cond k 4 2) 0 + cond (j && h) (cond k 4 2) 0
     split h o j r k e f = grind (arith, nat_tests, common_steps)

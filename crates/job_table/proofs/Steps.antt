@@ -1,5 +1,5 @@
-use Rattle.std.proofs.Common.{◌≡◌, ℕ, zero, suc, ◌+◌, ◌<◌, ◌≤◌, Bool, true, false, cond, not, ◌&&◌, ◌||◌, List, [], ◌∷◌, ◌++◌, map, Option, Some, None, is_some, refl, sym, ◌∙◌, ap, subst, inl, inr, ◌⊎◌, arith, ltb, eqb}
-use Rattle.std.specs.Prelude.{find, filter, option_map, option_and_then, nat_eq, nat_lt, sum_by, count_by}
+use Rattle.std.proofs.Common.{◌≡◌, ℕ, ◌+◌, Bool, true, false, cond, not, ◌&&◌, ◌||◌, List, [], ◌∷◌, map, Option, Some, None, is_some, refl, sym, ◌∙◌, ap, subst, arith, eqb}
+use Rattle.std.specs.Prelude.{find, filter, option_and_then, nat_eq, nat_lt, count_by}
 use Rattle.std.specs.List.{list_all, list_any}
 use Rattle.std.proofs.lemmas.Bool.Decides.{nat_tests}
 use Rattle.std.proofs.lemmas.Grind.{common_steps}
@@ -46,6 +46,7 @@ owner_new rules g now root p owners id n = find-owned_rows rules g now root p ow
     off : (b : Bool) (v : Option ℕ) → b ≡ false → cond b v None ≡ None
     off true v e = absurd (cc e)
     off false v e = refl
+
     go : (o : Option ObjectRow) → object_at now id ≡ o → option_and_then (next_owner rules g now root p owners) o ≡ None
     go None e = refl
     go (Some row) e =
@@ -65,6 +66,7 @@ owner_kept rules g now root p owners id row next e f b =
     on : (t : Bool) (v : Option ℕ) → t ≡ true → cond t v None ≡ v
     on true v h = refl
     on false v h = absurd (cc h)
+
     born : stands g next.id next.birth ≡ true
     born = ap (λ (k : ℕ). is_born_at next.birth (object_at g k)) (find_is id next now.objects f) ∙ ap (is_born_at next.birth) e ∙ ap (eqb row.birth) b ∙ eqb_self row.birth
 
@@ -126,6 +128,7 @@ owner_root_other rules g now root p owners ids stay edges id ne = go (object_at 
     off : (b : Bool) → eqb root id ≡ b → cond b (Some p) None ≡ None
     off true e = absurd (ne (sym (eqb_is root id e)))
     off false e = refl
+
     go : (o : Option ObjectRow) → object_at g id ≡ o → owner_in (owners_after rules g now (Some root) p owners) id ≡ owner_in owners id
     go None e = owner_new rules g now (Some root) p owners id e ∙ sym (no_owner id owners g.objects ids e)
     go (Some row) e =
@@ -173,11 +176,14 @@ owner_cut rules g p owners key ids e t id = go (object_at g id) refl
   where
     now : Graph
     now = changed g (TakesEdge key)
+
     off : (b d : Bool) (v : Option ℕ) → (b ≡ true → ⊥) → cond (b && d) v None ≡ None
     off true d v h = absurd (h refl)
     off false d v h = refl
+
     lost : object_at g id ≡ None → eqb key.to id ≡ true → ⊥
     lost n h = let q : object_at g key.to ≡ object_at g id = ap (object_at g) (eqb_is key.to id h) in cc (ap is_some q, ap is_some n, t)
+
     go : (o : Option ObjectRow) → object_at g id ≡ o →
         owner_in (owners_after rules g (changed g (TakesEdge key)) None p owners) id ≡
         first_of_two (owner_in owners id) (passed_by rules (changed g (TakesEdge key)) owners id key)
@@ -226,6 +232,7 @@ condemns_by_count rules counts g key row c o e =
   where
     same : counted_refs counts g key.to ≡ count_by (is_reference rules key.to) g.edges
     same = sum_by-same (λ r. one_if (is_counted counts key.to r)) (λ r. one_if (is_reference rules key.to r)) g.edges (λ r. ap (λ (b : Bool). one_if (b && nat_eq r.key.to key.to)) (c r.key.edge))
+
     one : is_refcount rules key.edge ≡ true → one_if (is_reference rules key.to row) ≡ 1
     one h =
         ap (λ (k : EdgeKey). one_if (is_refcount rules k.edge && nat_eq k.to key.to)) (edge_key_is key row g.edges e)
@@ -244,6 +251,7 @@ last_by_count rules counts g key row c o e =
   where
     same : counted_refs counts g key.to ≡ count_by (is_reference rules key.to) g.edges
     same = sum_by-same (λ r. one_if (is_counted counts key.to r)) (λ r. one_if (is_reference rules key.to r)) g.edges (λ r. ap (λ (b : Bool). one_if (b && nat_eq r.key.to key.to)) (c r.key.edge))
+
     one : is_refcount rules key.edge ≡ true → one_if (is_reference rules key.to row) ≡ 1
     one h =
         ap (λ (k : EdgeKey). one_if (is_refcount rules k.edge && nat_eq k.to key.to)) (edge_key_is key row g.edges e)

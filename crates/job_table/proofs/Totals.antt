@@ -1,5 +1,5 @@
-use Rattle.std.proofs.Common.{◌≡◌, ℕ, zero, suc, ◌+◌, ◌<◌, ◌≤◌, Bool, true, false, cond, not, ◌&&◌, ◌||◌, List, [], ◌∷◌, ◌++◌, map, Option, Some, None, is_some, refl, sym, ◌∙◌, ap, subst, inl, inr, ◌⊎◌, arith, ltb, eqb}
-use Rattle.std.specs.Prelude.{find, filter, option_map, option_and_then, nat_eq, nat_lt, sum_by, count_by}
+use Rattle.std.proofs.Common.{◌≡◌, ℕ, ◌+◌, ◌<◌, ◌≤◌, Bool, true, false, cond, List, [], ◌∷◌, map, Option, Some, None, refl, sym, ◌∙◌, ap, arith, ltb, eqb}
+use Rattle.std.specs.Prelude.{find, filter, sum_by}
 use Rattle.std.proofs.lemmas.Bool.Decides.{nat_tests}
 use Rattle.std.proofs.lemmas.Grind.{common_steps}
 use Rattle.delf_model.specs.declared.rows.ObjectRow.{ObjectRow}
@@ -42,6 +42,7 @@ objects_rise_filter id (x ∷ xs) h = go (is_other_object id x) (rises_filter id
     tail : (low : ℕ) (ys : List ObjectRow) → rises_after low ys ≡ true → objects_rise ys ≡ true
     tail low [] e = refl
     tail low (y ∷ ys) e = (both (ltb low y.id) (rises_after y.id ys) e).1
+
     go : (b : Bool) → rises_after x.id (filter (is_other_object id) xs) ≡ true → (ys : List ObjectRow) →
         objects_rise (cond b (x ∷ filter (is_other_object id) xs) (filter (is_other_object id) xs)) ≡ true
     go true a ys = a

@@ -1,4 +1,4 @@
-use Rattle.std.specs.Prelude.{ℕ, Bool, cond, nat_eq, List, [], ◌∷◌, Option, Some, None, option_map}
+use Rattle.std.specs.Prelude.{ℕ, Bool, cond, nat_eq, List, [], ◌∷◌, option_map}
 use Rattle.delf_model.specs.declared.entry.What.{What}
 use Rattle.delf_model.specs.State.{Handled, Logged, JobRow}
 use Rattle.job_table.specs.declared.items.Handling.{Handling}
@@ -48,7 +48,6 @@ row_of row = record {
 
 abbrev pub pair_of : Owned → ℕ × ℕ
 pair_of owned = (owned.id, owned.job)
-
 
 -- the list with its first element that passes changed
 abbrev pub changed_first : {A : Type 0} → (A → Bool) → (A → A) → List A → List A

@@ -1,11 +1,11 @@
-use Rattle.std.specs.Prelude.{◌≡◌, ℕ, zero, suc, ◌+◌, ◌≤◌, max, Bool, true, false, cond, ◌&&◌, not, nat_eq, nat_lt, List, [], ◌∷◌, Option, Some, None, find, map, count_by, length, slice_get, option_map, option_and_then, IsTrue}
+use Rattle.std.specs.Prelude.{◌≡◌, ℕ, suc, ◌≤◌, max, Bool, true, cond, ◌&&◌, not, nat_eq, nat_lt, List, [], ◌∷◌, Option, find, map, count_by, slice_get, option_map, option_and_then, IsTrue}
 use Rattle.delf_model.specs.declared.rows.ObjectRow.{ObjectRow}
 use Rattle.delf_model.specs.declared.rows.Item.{Item}
 use Rattle.delf_model.specs.declared.entry.Entry.{Entry}
 use Rattle.delf_model.specs.declared.entry.What.{What}
 use Rattle.delf_model.specs.RuleSet.{RuleSet, is_refcount}
 use Rattle.delf_model.specs.Graph.{Graph}
-use Rattle.delf_model.specs.State.{State, Logged, JobRow, Owners, owner, owned, job_row, is_restored}
+use Rattle.delf_model.specs.State.{State, Logged, JobRow, owner, owned, job_row, is_restored}
 use Rattle.delf_model.specs.Legal.{owed, room, room_limit, is_legal}
 use Rattle.delf_model.specs.Order.{erases_same}
 

@@ -11,7 +11,10 @@ ghost use Rattle.job_table.specs.Notes.{noted, noted_start, noted_restore, noted
 use crate::items::Handling;
 use crate::seats::Seats;
 use crate::table::JobTable;
-use delf_model::{Cause, EdgeKey, EdgeRow, EdgeRule, Entry, GraphStore, Item, Job, JobName, Moment, ObjectId, ObjectRow, Rules, Tag, What};
+use delf_model::{
+    Cause, EdgeKey, EdgeRow, EdgeRule, Entry, GraphStore, Item, Job, JobName, Moment, ObjectId,
+    ObjectRow, Rules, Tag, What,
+};
 
 impl JobTable {
     /// The entry is noted: the table then stands for the state after it. The graph is the one before the entry, the
@@ -66,7 +69,15 @@ impl JobTable {
         }
     }
 
-    fn apply_unlink<G: GraphStore>(&mut self, graph: &G, rules: &Rules, entry: &Entry, tag: &Tag, key: &EdgeKey, name: u32)
+    fn apply_unlink<G: GraphStore>(
+        &mut self,
+        graph: &G,
+        rules: &Rules,
+        entry: &Entry,
+        tag: &Tag,
+        key: &EdgeKey,
+        name: u32,
+    )
         requires is { entry.now.what ≡ What.Unlink tag.now key.now.edge key.now.from key.now.to name }
         requires legal { MayApply self.old (G.graph graph.now) (G.counts graph.now) rules.now entry.now }
         requires spare { 0 < self.old.spare }
@@ -75,13 +86,26 @@ impl JobTable {
         ensures spare { self.new.spare + 1 ≡ self.old.spare }
     {
         if takes_last_reference(graph, rules, key) {
-            self.note_start(entry.moment, Some(tag.seat), key.to, JobName::Named(name), 2);
+            self.note_start(
+                entry.moment,
+                Some(tag.seat),
+                key.to,
+                JobName::Named(name),
+                2,
+            );
             return;
         }
         self.note_unlink(entry.moment, tag.seat);
     }
 
-    fn apply_cut<G: GraphStore>(&mut self, graph: &G, rules: &Rules, entry: &Entry, job: Job, key: &EdgeKey)
+    fn apply_cut<G: GraphStore>(
+        &mut self,
+        graph: &G,
+        rules: &Rules,
+        entry: &Entry,
+        job: Job,
+        key: &EdgeKey,
+    )
         requires is { entry.now.what ≡ What.Cut job key.now.edge key.now.from key.now.to }
         requires legal { MayApply self.old (G.graph graph.now) (G.counts graph.now) rules.now entry.now }
         requires spare { 0 < self.old.spare }
@@ -97,7 +121,14 @@ impl JobTable {
         self.note_item(entry.moment, job, item);
     }
 
-    fn apply_erase<G: GraphStore>(&mut self, graph: &G, rules: &Rules, entry: &Entry, job: Job, id: ObjectId)
+    fn apply_erase<G: GraphStore>(
+        &mut self,
+        graph: &G,
+        rules: &Rules,
+        entry: &Entry,
+        job: Job,
+        id: ObjectId,
+    )
         requires is { entry.now.what ≡ What.Erase job id }
         requires legal { MayApply self.old (G.graph graph.now) (G.counts graph.now) rules.now entry.now }
         requires spare { 0 < self.old.spare }
@@ -111,7 +142,14 @@ impl JobTable {
         }
     }
 
-    fn apply_put<G: GraphStore>(&mut self, graph: &G, rules: &Rules, entry: &Entry, job: Job, i: u32)
+    fn apply_put<G: GraphStore>(
+        &mut self,
+        graph: &G,
+        rules: &Rules,
+        entry: &Entry,
+        job: Job,
+        i: u32,
+    )
         requires is { entry.now.what ≡ What.Put job i }
         requires legal { MayApply self.old (G.graph graph.now) (G.counts graph.now) rules.now entry.now }
         requires spare { 0 < self.old.spare }
@@ -152,7 +190,14 @@ impl JobTable {
         self.spare -= 1;
     }
 
-    fn note_start(&mut self, moment: Moment, seat: Option<u32>, root: ObjectId, name: JobName, less: u32)
+    fn note_start(
+        &mut self,
+        moment: Moment,
+        seat: Option<u32>,
+        root: ObjectId,
+        name: JobName,
+        less: u32,
+    )
         requires spare { 0 < self.old.spare }
         requires some { 1 ≤ less }
         requires owed { less ≤ self.old.owed }
@@ -257,9 +302,7 @@ impl JobTable {
     {
         match item {
             Item::Object { row, .. } => match graph.object(row.id) {
-                Some(found) => Some(Cause::Taken {
-                    birth: found.birth,
-                }),
+                Some(found) => Some(Cause::Taken { birth: found.birth }),
                 None => None,
             },
             Item::Edge {
@@ -271,7 +314,13 @@ impl JobTable {
         }
     }
 
-    fn judged_edge<G: GraphStore>(&self, graph: &G, row: &EdgeRow, from_birth: u32, to_birth: u32) -> Option<Cause>
+    fn judged_edge<G: GraphStore>(
+        &self,
+        graph: &G,
+        row: &EdgeRow,
+        from_birth: u32,
+        to_birth: u32,
+    ) -> Option<Cause>
         ensures { (s : State) → IsTableOf s self.now → G.graph graph.now ≡ s.graph → result ≡ first_of_two (end_cause s row.now.key.from from_birth) (first_of_two (end_cause s row.now.key.to to_birth) (key_taken (edge_at s.graph row.now.key))) }
     {
         if let Some(cause) = self.judged_end(graph, row.key.from, from_birth) {
@@ -281,9 +330,7 @@ impl JobTable {
             return Some(cause);
         }
         match graph.edge(row.key) {
-            Some(found) => Some(Cause::KeyTaken {
-                birth: found.birth,
-            }),
+            Some(found) => Some(Cause::KeyTaken { birth: found.birth }),
             None => None,
         }
     }

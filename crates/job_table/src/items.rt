@@ -97,37 +97,55 @@ impl Items {
     pub fn of_job(&self, job: Job) -> u32
         ensures { result ≡ count_by (is_of_job job) self.now.list }
     {
-        self.items.iter().filter(|kept| job_of(&kept.item) == job.0).count() as u32
+        self.items
+            .iter()
+            .filter(|kept| job_of(&kept.item) == job.0)
+            .count() as u32
     }
 
     pub fn erased(&self, job: Job) -> u32
         ensures { result ≡ count_by (is_object_of job) self.now.list }
     {
-        self.items.iter().filter(|kept| job_of(&kept.item) == job.0 && is_object(&kept.item)).count() as u32
+        self.items
+            .iter()
+            .filter(|kept| job_of(&kept.item) == job.0 && is_object(&kept.item))
+            .count() as u32
     }
 
     pub fn cut(&self, job: Job) -> u32
         ensures { result ≡ count_by (is_edge_of job) self.now.list }
     {
-        self.items.iter().filter(|kept| job_of(&kept.item) == job.0 && !is_object(&kept.item)).count() as u32
+        self.items
+            .iter()
+            .filter(|kept| job_of(&kept.item) == job.0 && !is_object(&kept.item))
+            .count() as u32
     }
 
     pub fn put(&self, job: Job) -> u32
         ensures { result ≡ count_by (is_put_of job) self.now.list }
     {
-        self.items.iter().filter(|kept| job_of(&kept.item) == job.0 && was_put(&kept.handled)).count() as u32
+        self.items
+            .iter()
+            .filter(|kept| job_of(&kept.item) == job.0 && was_put(&kept.handled))
+            .count() as u32
     }
 
     pub fn listed(&self, job: Job) -> u32
         ensures { result ≡ count_by (is_listed_of job) self.now.list }
     {
-        self.items.iter().filter(|kept| job_of(&kept.item) == job.0 && was_listed(&kept.handled)).count() as u32
+        self.items
+            .iter()
+            .filter(|kept| job_of(&kept.item) == job.0 && was_listed(&kept.handled))
+            .count() as u32
     }
 
     pub fn unhandled(&self, job: Job) -> u32
         ensures { result ≡ count_by (is_unhandled_of job) self.now.list }
     {
-        self.items.iter().filter(|kept| job_of(&kept.item) == job.0 && kept.handled.is_none()).count() as u32
+        self.items
+            .iter()
+            .filter(|kept| job_of(&kept.item) == job.0 && kept.handled.is_none())
+            .count() as u32
     }
 
     /// What the unhandled items of the job count once it is restored.
@@ -225,9 +243,12 @@ fn listing(job: Job, i: u32, kept: &Kept) -> Option<Listed>
         return None;
     }
     match kept.handled {
-        Some(Handling {
-            cause: Some(cause), ..
-        }) => Some(Listed {
+        Some(
+            Handling {
+                cause: Some(cause),
+                ..
+            },
+        ) => Some(Listed {
             item: i,
             row: kept.item,
             cause,

@@ -4,7 +4,9 @@ use delf_model::{EdgeNo, Job, ObjectId};
 #[derive(Clone, Copy, PartialEq, Eq, Debug)]
 pub enum Next {
     /// The object is due.
-    Expire { id: ObjectId },
+    Expire {
+        id: ObjectId,
+    },
     /// The job takes this edge of an object that it owns.
     Cut {
         job: Job,
@@ -13,13 +15,23 @@ pub enum Next {
         to: ObjectId,
     },
     /// The job takes this object, which no edge touches any more.
-    Erase { job: Job, id: ObjectId },
+    Erase {
+        job: Job,
+        id: ObjectId,
+    },
     /// The restored job puts this item back, or lists it.
-    Put { job: Job, item: u32 },
+    Put {
+        job: Job,
+        item: u32,
+    },
     /// The window of the job is over.
-    Purge { job: Job },
+    Purge {
+        job: Job,
+    },
     /// No step is legal.
     Idle,
     /// A step is legal, and each legal step is held; so many steps are.
-    Held { n: u32 },
+    Held {
+        n: u32,
+    },
 }

@@ -16,7 +16,10 @@ use crate::jobs::{Jobs, Row};
 use crate::next::Next;
 use crate::owners::Owners;
 use crate::seats::Seats;
-use delf_model::{Cause, Entry, GraphStore, Item, Job, JobLine, JobName, Listed, Moment, ObjectId, Rules, Status, What};
+use delf_model::{
+    Cause, Entry, GraphStore, Item, Job, JobLine, JobName, Listed, Moment, ObjectId, Rules, Status,
+    What,
+};
 use std::alloc::{AllocError, Global};
 use std::marker::Model;
 

@@ -1,4 +1,4 @@
-use Rattle.std.proofs.Common.{Bool, true, cond, Some, sym, ap}
+use Rattle.std.proofs.Common.{Bool, cond, Some, sym, ap}
 use Rattle.delf_model.specs.State.{restored_at}
 use Rattle.job_table.specs.Parts.{row_of}
 use Rattle.job_table.proofs.Places.{change_some, change_none}

@@ -3,10 +3,11 @@ use Rattle.job_table.proofs.Places.{disowned_apart, disowned_owner, disowned_own
 use Rattle.job_table.proofs.owners.Owners.disown.Goals as goal
 
 pub invariant_of-self : goal.invariant_of-self
-invariant_of-self c =
-    (omega (arith, c.remove.ensures.len, c.self.invariant.0),
-    disowned_apart c.self.inside.pairs.items c.deref.result.now c.remove.new.self.items c.args.self.now _ c.args.id c.in-Some.i c.remove.result
-    c.deref.ensures.value c.self.view_is c.in-Some.ensures c.remove.ensures.items c.self.invariant.1)
+invariant_of-self c = (
+  omega (arith, c.remove.ensures.len, c.self.invariant.0),
+  disowned_apart c.self.inside.pairs.items c.deref.result.now c.remove.new.self.items c.args.self.now _ c.args.id c.in-Some.i c.remove.result
+      c.deref.ensures.value c.self.view_is c.in-Some.ensures c.remove.ensures.items c.self.invariant.1,
+)
 
 pub returns-in-Some-clause-owner : goal.returns-in-Some-clause-owner
 returns-in-Some-clause-owner c =

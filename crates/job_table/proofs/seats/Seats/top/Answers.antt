@@ -1,4 +1,3 @@
-use Rattle.std.proofs.Common.{ℕ}
 use Rattle.job_table.proofs.Places.{top_more}
 use Rattle.job_table.proofs.seats.Seats.top.Goals as goal
 

@@ -1,4 +1,4 @@
-use Rattle.std.proofs.Common.{◌∙◌, ap, Some, Option}
+use Rattle.std.proofs.Common.{◌∙◌, ap, Some}
 use Rattle.delf_model.specs.declared.call.JobLine.{JobLine}
 use Rattle.job_table.specs.Table.{Table}
 use Rattle.job_table.specs.Parts.{row_of}

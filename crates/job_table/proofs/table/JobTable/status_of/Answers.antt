@@ -1,4 +1,4 @@
-use Rattle.std.proofs.Common.{◌≡◌, ◌∙◌, ap, sym, refl, true, false, is_some, None, Some, arith}
+use Rattle.std.proofs.Common.{◌≡◌, ◌∙◌, ap, true, false, is_some}
 use Rattle.std.specs.Prelude.{count_by}
 use Rattle.job_table.specs.Table.{Table, owned_among}
 use Rattle.job_table.specs.Parts.{row_of}
