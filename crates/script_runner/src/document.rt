@@ -1,3 +1,14 @@
+ghost use Rattle.std.specs.Prelude.{◌≡◌, ◌≤◌, ◌<◌, IfOk, IfSome, Err, length};
+ghost use Rattle.std.specs.List.{All};
+ghost use Rattle.std.specs.Str.Lines.{lines};
+ghost use Rattle.std.specs.Str.{bytes_eq};
+ghost use Rattle.delf_model.specs.Checked.{number_of};
+ghost use Rattle.schema_lang.specs.Rows.{word_text};
+ghost use Rattle.schema_lang.specs.Numbers.{number_in};
+ghost use Rattle.script_runner.specs.Documents.{IsDocument, IsNoDocument, commands_of, command_of, created_by, within, declared_kind};
+ghost use Rattle.script_runner.specs.Lines.{AddsLine, AddsWords};
+ghost use Rattle.script_runner.specs.Stores.{NamesType};
+
 use delf_model::{Bytes, List, ObjectId, ObjectType, Rules, RulesFault, Schema, TypeNo};
 use schema_lang::{Line, SchemaFault, Word, parse_part, read_line, read_number, split_line};
 use std::alloc::{AllocError, Global};
@@ -36,7 +47,12 @@ pub enum DocumentFault {
 }
 
 /// The document that these bytes spell.
-pub fn read_document(alloc: Global, bytes: &[u8]) -> Result<Document, DocumentFault> {
+pub fn read_document(alloc: Global, bytes: &[u8]) -> Result<Document, DocumentFault>
+    ensures document { IfOk result (λ document. IsDocument bytes.now document) }
+    ensures bad { result ≡ Err DocumentFault.Bad → IsNoDocument bytes.now }
+    ensures kinds { IfOk result (λ document. All (NamesType (length document.schema.objects)) document.commands) }
+    ensures count { IfOk result (λ document. length document.commands ≤ length bytes.now) }
+{
     if bytes.len() > DOCUMENT_LIMIT {
         return Err(DocumentFault::Bad);
     }
@@ -66,25 +82,62 @@ fn read_commands(
     alloc: Global,
     types: &[ObjectType],
     bytes: &[u8],
-) -> Result<Option<List<Command>>, AllocError> {
+) -> Result<Option<List<Command>>, AllocError>
+    requires { length types.now ≤ 64 }
+    ensures meaning { IfOk result (λ read. read ≡ commands_of types.now (lines bytes.now)) }
+    ensures kinds { IfOk result (λ read. IfSome read (λ commands. All (NamesType (length types.now)) commands)) }
+    ensures count { IfOk result (λ read. IfSome read (λ commands. length commands ≤ length bytes.now)) }
+{
     let mut commands = List::new(alloc);
     let mut rest = bytes;
     while let Some((line, after)) = split_line(rest) {
-        match read_line(alloc, line)? {
-            Line::Skipped => {}
-            Line::Faulty => return Ok(None),
-            Line::Words(words) => match read_command(alloc, types, words.as_slice())? {
-                Some(command) => commands.push(command)?,
-                None => return Ok(None),
-            },
+        if !add_line(alloc, types, line, &mut commands)? {
+            return Ok(None);
         }
         rest = after;
     }
     Ok(Some(commands))
 }
 
+// Adds the command of a line, if it has one, and says whether the line is without a fault.
+fn add_line(
+    alloc: Global,
+    types: &[ObjectType],
+    line: &[u8],
+    commands: &mut List<Command>,
+) -> Result<bool, AllocError>
+    requires { length types.now ≤ 64 }
+    ensures { IfOk result (AddsLine types.now line.now commands.old commands.new) }
+{
+    match read_line(alloc, line)? {
+        Line::Skipped => Ok(true),
+        Line::Faulty => Ok(false),
+        Line::Words(words) => add_command(alloc, types, words.as_slice(), commands),
+    }
+}
+
+fn add_command(
+    alloc: Global,
+    types: &[ObjectType],
+    words: &[Word],
+    commands: &mut List<Command>,
+) -> Result<bool, AllocError>
+    requires { length types.now ≤ 64 }
+    ensures { IfOk result (AddsWords types.now words.now commands.old commands.new) }
+{
+    match read_command(alloc, types, words)? {
+        Some(command) => {
+            commands.push(command)?;
+            Ok(true)
+        }
+        None => Ok(false),
+    }
+}
+
 // The text of a plain word; that of a payload is empty, and fits no place.
-fn text(word: &Word) -> &[u8] {
+fn text(word: &Word) -> &[u8]
+    ensures { result.now ≡ word_text word.now }
+{
     match word {
         Word::Plain(text) => text.as_slice(),
         Word::Payload(_) => &[],
@@ -96,7 +149,11 @@ fn read_command(
     alloc: Global,
     types: &[ObjectType],
     words: &[Word],
-) -> Result<Option<Command>, AllocError> {
+) -> Result<Option<Command>, AllocError>
+    requires { length types.now ≤ 64 }
+    ensures meaning { IfOk result (λ read. read ≡ command_of types.now words.now) }
+    ensures kinds { IfOk result (λ read. IfSome read (NamesType (length types.now))) }
+{
     match words {
         [word] if text(word) == b"show".as_slice() => Ok(Some(Command::Show)),
         [word, id, kind] => read_create(alloc, types, text(word), text(id), text(kind), &[]),
@@ -119,7 +176,11 @@ fn read_create(
     id: &[u8],
     kind: &[u8],
     payload: &[u8],
-) -> Result<Option<Command>, AllocError> {
+) -> Result<Option<Command>, AllocError>
+    requires { length types.now ≤ 64 }
+    ensures meaning { IfOk result (λ read. read ≡ created_by types.now word.now id.now kind.now payload.now) }
+    ensures kinds { IfOk result (λ read. IfSome read (NamesType (length types.now))) }
+{
     if word != b"create".as_slice() {
         return Ok(None);
     }
@@ -130,7 +191,9 @@ fn read_create(
     Ok(Some(Command::Create { kind, id, payload }))
 }
 
-fn read_id(text: &[u8]) -> Option<ObjectId> {
+fn read_id(text: &[u8]) -> Option<ObjectId>
+    ensures { result ≡ within (number_in 1 999999999999 text.now) }
+{
     match read_number(text, 1, 999_999_999_999) {
         Ok(id) => ObjectId::new(id),
         Err(_) => None,
@@ -138,7 +201,11 @@ fn read_id(text: &[u8]) -> Option<ObjectId> {
 }
 
 // The number of the object type with this name.
-fn kind_of(types: &[ObjectType], name: &[u8]) -> Option<TypeNo> {
+fn kind_of(types: &[ObjectType], name: &[u8]) -> Option<TypeNo>
+    requires { length types.now ≤ 64 }
+    ensures meaning { result ≡ declared_kind types.now name.now }
+    ensures declared { IfSome result (λ kind. kind < length types.now) }
+{
     let place = place_of(types, name);
     if place < types.len() {
         Some(TypeNo(place as u8))
@@ -147,11 +214,19 @@ fn kind_of(types: &[ObjectType], name: &[u8]) -> Option<TypeNo> {
     }
 }
 
-fn place_of(types: &[ObjectType], name: &[u8]) -> usize {
+fn place_of(types: &[ObjectType], name: &[u8]) -> usize
+    ensures { result ≡ number_of types.now name.now }
+{
     for (place, object) in types.iter().enumerate() {
-        if object.name.as_slice() == name {
+        if is_named(object, name) {
             return place;
         }
     }
     types.len()
+}
+
+fn is_named(object: &ObjectType, name: &[u8]) -> bool
+    ensures { result ≡ bytes_eq object.now.name name.now }
+{
+    object.name.as_slice() == name
 }

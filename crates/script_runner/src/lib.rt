@@ -2,6 +2,7 @@
 #![tactic(auto)]
 
 mod document;
+mod line;
 mod put;
 mod read;
 mod run;

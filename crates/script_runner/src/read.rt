@@ -1,3 +1,6 @@
+ghost use Rattle.std.specs.Prelude.{◌≡◌, ◌++◌, ◌<◌, ◌≤◌, ℕ, List, [], length, IsTrue, IfOk, OnOk, vec_len, Err};
+ghost use Rattle.delf_io.specs.Faults.{Rose};
+
 use delf_io::Source;
 use std::alloc::Global;
 
@@ -15,7 +18,19 @@ pub fn read_at_most<S: Source>(
     alloc: Global,
     source: &mut S,
     limit: usize,
-) -> Result<Vec<u8>, ReadError> {
+) -> Result<Vec<u8>, ReadError>
+    ensures within { IfOk result (λ read. vec_len read ≤ limit) }
+    ensures same_told { S.told source.new ≡ S.told source.old }
+    ensures taken { IfOk result (λ read. IsTrue (S.told source.old)
+        → S.left source.old ≡ read.items ++ S.left source.new) }
+    ensures whole { IfOk result (λ read. IsTrue (S.told source.old)
+        → vec_len read < limit → S.left source.new ≡ []) }
+    ensures at_most { IsTrue (S.told source.old) → (read : List ℕ) × (length read ≤ limit)
+        × (S.left source.old ≡ read ++ S.left source.new) }
+    ensures never_falls { S.faults source.old ≤ S.faults source.new }
+    ensures ok_stays { OnOk result (S.faults source.new ≡ S.faults source.old) }
+    ensures failed_rose { result ≡ Err ReadError.Failed → Rose (S.faults source.old) (S.faults source.new) }
+{
     let mut read = Vec::new(alloc);
     let mut piece = [0u8; 4096];
     'turns: while read.len() < limit {

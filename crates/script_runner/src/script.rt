@@ -1,48 +1,66 @@
+ghost use Rattle.std.specs.Prelude.{◌≡◌, ◌<◌, IfOk, OnOk, length, map};
+ghost use Rattle.delf_model.specs.declared.call.Call.{Call};
+ghost use Rattle.script_runner.specs.Stores.{NamesType};
+ghost use Rattle.script_runner.specs.Serial.{lines_of, next_world, graph_lines};
+
 use crate::document::Command;
+use crate::line::{created_line, graph_line, object_line, refusal_line};
 use crate::store::Store;
-use delf_model::{Bytes, ObjectId, ObjectType, Refusal, TypeNo};
-use job_report::{created_line, graph_line, object_line, refusal_line};
+use delf_model::{Bytes, ObjectId, Refusal, Schema, TypeNo};
 use std::alloc::{AllocError, Global};
 
 /// Makes a command, and gives its lines.
 pub fn perform(
     alloc: Global,
-    types: &[ObjectType],
+    schema: &Schema,
     store: &mut Store,
     command: &Command,
-) -> Result<Bytes, AllocError> {
+) -> Result<Bytes, AllocError>
+    requires numbered { length store.old.state.rules.objects ≡ length schema.now.objects }
+    requires kind { NamesType (length schema.now.objects) command.now }
+    ensures lines { IfOk result (λ text. text ≡ lines_of schema.now store.old command.now) }
+    ensures next { OnOk result (store.new ≡ next_world store.old command.now) }
+{
     match command {
         Command::Create { kind, id, payload } => {
-            create(alloc, types, store, *kind, *id, payload.as_slice())
+            create(alloc, schema, store, *kind, *id, payload.as_slice())
         }
-        Command::Show => show(alloc, types, store),
+        Command::Show => show(alloc, schema, store),
     }
 }
 
 fn create(
     alloc: Global,
-    types: &[ObjectType],
+    schema: &Schema,
     store: &mut Store,
     kind: TypeNo,
     id: ObjectId,
     payload: &[u8],
-) -> Result<Bytes, AllocError> {
+) -> Result<Bytes, AllocError>
+    requires numbered { length store.old.state.rules.objects ≡ length schema.now.objects }
+    requires kind { kind < length schema.now.objects }
+    ensures lines { IfOk result (λ text. text ≡ lines_of schema.now store.old (Command.Create kind id payload.now)) }
+    ensures next { OnOk result (store.new ≡ next_world store.old (Command.Create kind id payload.now)) }
+{
     let position = store.len();
     match store.create(alloc, kind, id, payload) {
         Ok(()) => created_line(alloc, position, id),
         Err(Refusal::OutOfMemory) => Err(AllocError),
         Err(refusal) => {
-            let name = &types[kind.0 as usize].name;
+            let name = &schema.objects.as_slice()[kind.0 as usize].name;
             refusal_line(alloc, &refusal, position, name)
         }
     }
 }
 
-fn show(alloc: Global, types: &[ObjectType], store: &Store) -> Result<Bytes, AllocError> {
+fn show(alloc: Global, schema: &Schema, store: &Store) -> Result<Bytes, AllocError>
+    requires { length store.now.state.rules.objects ≡ length schema.now.objects }
+    ensures { IfOk result (λ text. text ≡ graph_lines schema.now store.now) }
+{
+    let types = schema.objects.as_slice();
     let rows = store.objects();
-    let mut text = Vec::new(alloc);
     let line = graph_line(alloc, rows.len() as u32, 0)?;
-    text.extend_from_slice(line.as_slice())?;
+    let mut text = Vec::from_slice(alloc, line.as_slice())?;
     for row in rows {
         let name = &types[row.kind.0 as usize].name;
         let line = object_line(alloc, row, name, store.payload(row.at), None)?;
