@@ -3,3 +3,4 @@ pub mod Sources
 pub mod Scripts
 pub mod Rows
 pub mod Creates
+pub mod Shows

@@ -9,6 +9,8 @@ mod run;
 mod script;
 mod status;
 mod store;
+#[cfg(test)]
+mod tests;
 mod words;
 
 pub use document::{Command, Document, DocumentFault, read_document};

@@ -6,10 +6,11 @@ ghost use Rattle.script_runner.specs.Serial.{lines_of, next_world, graph_lines};
 use crate::document::Command;
 use crate::line::{created_line, graph_line, object_line, refusal_line};
 use crate::store::Store;
-use delf_model::{Bytes, ObjectId, Refusal, Schema, TypeNo};
+use delf_model::{Bytes, ObjectId, Schema, TypeNo};
 use std::alloc::{AllocError, Global};
 
 /// Makes a command, and gives its lines.
+#[tactic(auto, unfolding(crate::specs::Serial::lines_of, crate::specs::Serial::next_world))]
 pub fn perform(
     alloc: Global,
     schema: &Schema,
@@ -29,6 +30,7 @@ pub fn perform(
     }
 }
 
+#[tactic(auto, unfolding(crate::specs::Serial::lines_of, crate::specs::Serial::next_world))]
 fn create(
     alloc: Global,
     schema: &Schema,
@@ -43,12 +45,11 @@ fn create(
     ensures next { OnOk result (store.new ≡ next_world store.old (Command.Create kind id payload.now)) }
 {
     let position = store.len();
-    match store.create(alloc, kind, id, payload) {
-        Ok(()) => created_line(alloc, position, id),
-        Err(Refusal::OutOfMemory) => Err(AllocError),
-        Err(refusal) => {
-            let name = &schema.objects.as_slice()[kind.0 as usize].name;
-            refusal_line(alloc, &refusal, position, name)
+    match store.create(alloc, kind, id, payload)? {
+        None => created_line(alloc, position, id),
+        Some(refusal) => {
+            let types = schema.objects.as_slice();
+            refusal_line(alloc, &refusal, position, &types[kind.0 as usize].name)
         }
     }
 }

@@ -1,16 +1,17 @@
-ghost use Rattle.std.specs.Prelude.{◌≡◌, ◌≢◌, ◌+◌, ◌*◌, ◌<◌, ◌≤◌, ℕ, IfErr, OnOk, OnErr, IfSome, Ok, Err, None, option_map, find, length, IsTrue};
+ghost use Rattle.std.specs.Prelude.{◌≡◌, ◌+◌, ◌*◌, ◌<◌, ◌≤◌, ℕ, [], IfOk, OnOk, OnErr, IfSome, IfNone, Ok, Err, None, option_map, find, length, IsTrue};
 ghost use Rattle.std.specs.List.{AllByRecursion};
 ghost use Rattle.delf_model.specs.declared.entry.Tag.{Tag};
 ghost use Rattle.delf_model.specs.declared.entry.What.{What};
 ghost use Rattle.delf_model.specs.declared.call.Call.{Call};
 ghost use Rattle.delf_model.specs.Graph.{objects_rise, object_at, has_id};
-ghost use Rattle.delf_model.specs.State.{due_of};
+ghost use Rattle.delf_model.specs.State.{due_of, owner};
 ghost use Rattle.delf_model.specs.Legal.{refused};
 ghost use Rattle.script_runner.specs.Stores.{HasKind, place_in};
 ghost use Rattle.script_runner.specs.Serial.{first_world, given_at, answer, after_answer, created_what, IsAccepted};
 
 use delf_model::{Bytes, Moment, ObjectId, ObjectRow, ObjectRule, Refusal, Rules, TypeNo};
 use std::alloc::{AllocError, Global};
+use std::marker::Model;
 
 /// The greatest sum of entries made and entries owed.
 const ROOM_LIMIT: usize = 500_000;
@@ -71,6 +72,8 @@ impl Store {
         ensures rows { result.now ≡ self.now.state.graph.objects }
         ensures kinds { AllByRecursion (HasKind self.now.state.rules) result.now }
         ensures few { 4 * length result.now ≤ 500000 }
+        ensures alone { self.now.state.graph.edges ≡ [] }
+        ensures unowned { (id : ℕ) → owner self.now.state id ≡ None }
     {
         self.rows.as_slice()
     }
@@ -85,34 +88,32 @@ impl Store {
         }
     }
 
-    /// Makes an object, or says why not; then nothing is changed.
+    /// Makes an object, or gives the refusal, and then nothing is changed; nor is it for want of memory.
     pub fn create(
         &mut self,
         alloc: Global,
         kind: TypeNo,
         id: ObjectId,
         payload: &[u8],
-    ) -> Result<(), Refusal>
+    ) -> Result<Option<Refusal>, AllocError>
         requires { kind < length self.old.state.rules.objects }
-        ensures accepted { OnOk result (IsAccepted self.old self.new payload.now (answer self.old (Call.Create kind id payload.now)) (created_what self.old kind id (length payload.now))) }
-        ensures refused { IfErr result (λ refusal. refusal ≢ Refusal.OutOfMemory → answer self.old (Call.Create kind id payload.now) ≡ Err refusal) }
+        ensures accepted { IfOk result (λ refusal. IfNone refusal (IsAccepted self.old self.new payload.now (answer self.old (Call.Create kind id payload.now)) (created_what self.old kind id (length payload.now)))) }
+        ensures refused { IfOk result (λ refusal. IfSome refusal (λ why. answer self.old (Call.Create kind id payload.now) ≡ Err why)) }
+        ensures kept { IfOk result (λ refusal. IfSome refusal (λ why. self.new ≡ self.old)) }
         ensures unchanged { OnErr result (self.new ≡ self.old) }
     {
         let place = place_of(&self.rows, id);
         if let Some(refusal) = self.refusal(place, id, payload.len()) {
-            return Err(refusal);
+            return Ok(Some(refusal));
         }
-        match self.add(alloc, place, kind, id, payload) {
-            Ok(()) => Ok(()),
-            Err(AllocError) => Err(Refusal::OutOfMemory),
-        }
+        self.add(alloc, place, kind, id, payload)?;
+        Ok(None)
     }
 
     // Why an object with this id and a payload of this size is not made; it has this place.
     fn refusal(&self, place: usize, id: ObjectId, size: usize) -> Option<Refusal>
         requires { place ≡ place_in id self.now.state.graph.objects }
         ensures refusal { (tag : Tag) (moment kind : ℕ) → tag.seat ≡ 0 → refused self.now.state moment (What.Create tag kind id size) ≡ result }
-        ensures other { IfSome result (λ refusal. refusal ≢ Refusal.OutOfMemory) }
         ensures absent { result ≡ None → object_at self.now.state.graph id ≡ None }
         ensures room { result ≡ None → 4 * (length self.now.state.graph.objects + 1) ≤ 500000 }
         ensures small { result ≡ None → size ≤ 512 }
