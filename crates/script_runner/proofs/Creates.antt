@@ -1,9 +1,12 @@
 -- The state of a store of created objects, and what one create more makes of it.
-use Rattle.std.proofs.Common.{◌≡◌, ℕ, zero, suc, ◌+◌, ◌*◌, ◌≤◌, ◌<◌, Bool, true, false, cond, eqb, ltb, Result, Ok, Err, Option, Some, None, List, [], ◌∷◌, ◌++◌, length, map, refl, sym, ap, subst, ◌∙◌, arith}
+use Rattle.std.proofs.Common.{◌≡◌, ℕ, zero, suc, ◌+◌, ◌*◌, ◌≤◌, ◌<◌, Bool, true, false, cond, eqb, ltb, Result, Ok, Err, Option, Some, None, List, [], ◌∷◌, ◌++◌, length, get_or, map, refl, sym, ap, subst, ◌∙◌, arith}
 use Rattle.std.proofs.lemmas.Bool.Decides.{nat_tests}
 use Rattle.std.proofs.lemmas.Grind.{common_steps}
 use Rattle.std.proofs.lemmas.List.{length_push, map-append}
+use Rattle.std.proofs.lemmas.Option.{slice_get-get_or}
+use Rattle.std.proofs.lemmas.List.Sums.{sum_by-cons}
 use Rattle.std.specs.Option.{option_map}
+use Rattle.std.specs.List.{insert}
 use Rattle.std.specs.Prelude.{find, slice_get, sum_by, is_some, option_and_then}
 use Rattle.delf_model.specs.RuleSet.{RuleSet}
 use Rattle.delf_model.specs.declared.rows.ObjectRow.{ObjectRow}
@@ -13,13 +16,13 @@ use Rattle.delf_model.specs.declared.entry.Tag.{Tag}
 use Rattle.delf_model.specs.declared.entry.What.{What}
 use Rattle.delf_model.specs.declared.entry.What.TheVariants.{Create}
 use Rattle.delf_model.specs.Graph.{Graph, has_id, object_at, put_object, stands}
-use Rattle.delf_model.specs.State.{State, Owners, step, owner, owner_in, owner_of_pair, owns_of, owned_row, new_object, first_of_two}
-use Rattle.delf_model.specs.Legal.{room, owed_for_object, refused, first_refusal, too_long, name_taken, name_taken_by, full, moment_of}
+use Rattle.delf_model.specs.State.{State, Owners, due_of, step, owner, owner_in, owner_of_pair, owns_of, owned_row, new_object, first_of_two}
+use Rattle.delf_model.specs.Legal.{room, next_tag, owed_for_object, refused, first_refusal, too_long, name_taken, name_taken_by, full, moment_of}
 use Rattle.delf_model.specs.Payloads.{is_at, bytes_of_pair}
-use Rattle.script_runner.specs.Stores.{World, created_state, created_world, placed_from, unowned, root_seat}
-use Rattle.script_runner.specs.Serial.{after_answer, given_at}
+use Rattle.script_runner.specs.Stores.{World, KeepsStore, created_state, created_world, place_in, placed_from, unowned, root_seat}
+use Rattle.script_runner.specs.Serial.{after_answer, given_at, created_what}
 use Rattle.delf_model.proofs.Owners.{found_id}
-use Rattle.script_runner.proofs.Rows.{length_put}
+use Rattle.script_runner.proofs.Rows.{length_put, insert_place, objects_rise_put, kinds_put}
 
 -- owners: there are none
 
@@ -59,10 +62,12 @@ next_state rules before moment rows payloads given tag kind id size root =
     let made : List ℕ → Owners → ℕ → State = λ seats owners len. record {
       rules = rules; len = len; moment = moment; graph = record { objects = put_object row rows; edges = [] };
       owners = owners; items = []; jobs = []; seats = seats } in
-    ap (λ (seat : ℕ). made (map root_seat payloads ++ seat ∷ []) _ (length payloads + 1)) root
-    ∙ ap (λ (seats : List ℕ). made seats _ (length payloads + 1)) (sym (map-append root_seat payloads (given ∷ [])))
-    ∙ ap (λ (owners : Owners). made _ owners (length payloads + 1)) (owners_stay rules rows _ (length payloads) (put_object row rows))
-    ∙ ap (λ (len : ℕ). made _ _ len) (sym (length_push payloads given))
+    let owned : Owners = map (owned_row rules (record { objects = rows; edges = [] }) (record { objects = put_object row rows; edges = [] }) None (length payloads) (map unowned rows)) (put_object row rows) in
+    ap (λ (seat : ℕ). made (map root_seat payloads ++ seat ∷ []) owned (length payloads + 1)) root
+    ∙ ap (λ (seats : List ℕ). made seats owned (length payloads + 1)) (sym (map-append root_seat payloads (given ∷ [])))
+    ∙ ap (λ (owners : Owners). made (map root_seat (payloads ++ given ∷ [])) owners (length payloads + 1))
+      (owners_stay rules rows (record { objects = put_object row rows; edges = [] }) (length payloads) (put_object row rows))
+    ∙ ap (λ (len : ℕ). made (map root_seat (payloads ++ given ∷ [])) (map unowned (put_object row rows)) len) (sym (length_push payloads given))
 
 placed_push : (k : ℕ) (payloads : List (List ℕ)) (given : List ℕ) →
     placed_from k (payloads ++ given ∷ []) ≡ placed_from k payloads ++ (k + length payloads, given) ∷ []
@@ -128,7 +133,8 @@ threes owners [] none = refl
 threes owners (y ∷ ys) none =
     let rest : sum_by (owed_for_object owners) ys ≡ 3 * length ys = threes owners ys none in
     let first : owed_for_object owners y ≡ 3 = ap (λ (o : Option ℕ). cond (is_some o) 1 3) (none y.id) in
-    grind arith
+    let both : owed_for_object owners y + sum_by (owed_for_object owners) ys ≡ 3 * suc (length ys) = omega (arith, first, rest) in
+    sum_by-cons (owed_for_object owners) y ys ∙ both
 
 room_is : (rules : RuleSet) (moment : ℕ) (rows : List ObjectRow) (payloads : List (List ℕ)) → length rows ≡ length payloads →
     room (created_state rules moment rows payloads) ≡ 4 * length rows
@@ -224,3 +230,70 @@ refused_not rules before moment rows payloads tag kind id size root same small n
     let no : ltb 500000 (room (step s (record { moment = moment; what = Create tag kind id size }))) ≡ false = ap (λ (n : ℕ). ltb 500000 n) after ∙ within_room (length rows) fits in
     refused_by_room s moment tag kind id size small none
     ∙ ap (λ (b : Bool). of_three None None (cond b (Some (Full (length payloads) (sum_by (owed_for_object (map unowned rows)) rows + 0 + 0 + 0))) None)) no
+
+-- the payload that an index reads
+
+past : (payloads : List (List ℕ)) (position : ℕ) → length payloads ≤ position → slice_get payloads position ≡ None
+past [] position over = refl
+past (x ∷ xs) zero over = absurd (omega arith)
+past (x ∷ xs) (suc position) over = past xs position (omega arith)
+
+pub given_index : (rules : RuleSet) (clock moment : ℕ) (rows : List ObjectRow) (payloads : List (List ℕ)) (position : ℕ) (payload : List ℕ) →
+    position < length payloads → payload ≡ get_or payloads position payload →
+    payload ≡ given_at (created_world rules clock moment rows payloads) position
+given_index rules clock moment rows payloads position payload below is =
+    given_some rules clock moment rows payloads position payload
+    (slice_get-get_or payloads position payload below ∙ ap (λ (p : List ℕ). Some p) (sym is))
+
+pub given_past : (rules : RuleSet) (clock moment : ℕ) (rows : List ObjectRow) (payloads : List (List ℕ)) (position : ℕ) →
+    length payloads ≤ position → [] ≡ given_at (created_world rules clock moment rows payloads) position
+given_past rules clock moment rows payloads position over = given_none rules clock moment rows payloads position (past payloads position over)
+
+-- a store after one create more
+
+pub row_is : (s : State) (moment kind id size birth due : ℕ) → birth ≡ s.len → due ≡ due_of (slice_get s.rules.objects kind) moment →
+    let made : ObjectRow = record { id = id; kind = kind; birth = birth; due = due; at = birth; size = size } in
+    made ≡ new_object s moment kind id size
+row_is s moment kind id size birth due born dues =
+    let made : ℕ → ℕ → ObjectRow = λ b d. record { id = id; kind = kind; birth = b; due = d; at = b; size = size } in
+    ap (λ (b : ℕ). made b due) born ∙ ap (λ (d : ℕ). made s.len d) dues
+
+rows_after : (rows new_rows : List ObjectRow) (row made : ObjectRow) (place : ℕ) → find (has_id row.id) rows ≡ None →
+    place ≡ place_in row.id rows → made ≡ row → new_rows ≡ insert rows place made → new_rows ≡ put_object row rows
+rows_after rows new_rows row made place none at same is =
+    is ∙ ap (λ (r : ObjectRow). insert rows place r) same ∙ ap (λ (n : ℕ). insert rows n row) at ∙ insert_place row rows none
+
+pub created_is : (w : World) (rules : RuleSet) (clock before moment : ℕ) (rows new_rows : List ObjectRow)
+    (payloads new_payloads : List (List ℕ)) (given : List ℕ) (kind id size place : ℕ) (made : ObjectRow) →
+    created_world rules clock before rows payloads ≡ w → moment ≡ moment_of (created_state rules before rows payloads) clock →
+    find (has_id id) rows ≡ None → place ≡ place_in id rows →
+    made ≡ new_object (created_state rules before rows payloads) moment kind id size →
+    new_rows ≡ insert rows place made → new_payloads ≡ payloads ++ given ∷ [] →
+    created_world rules clock moment new_rows new_payloads ≡ after_answer w given (Ok (created_what w kind id size))
+created_is w rules clock before moment rows new_rows payloads new_payloads given kind id size place made view is none at row added pushed =
+    let fresh = new_object (created_state rules before rows payloads) moment kind id size in
+    let all : new_rows ≡ put_object fresh rows = rows_after rows new_rows fresh made place none at row added in
+    ap (λ (rs : List ObjectRow). created_world rules clock moment rs new_payloads) all
+    ∙ ap (λ (ps : List (List ℕ)). created_world rules clock moment (put_object fresh rows) ps) pushed
+    ∙ next_world_is rules clock before moment rows payloads given (next_tag (created_state rules before rows payloads) 0) kind id size refl is
+    ∙ ap (λ (v : World). after_answer v given (Ok (created_what v kind id size))) view
+
+pub keeps_created : (rules : RuleSet) (before moment : ℕ) (rows new_rows : List ObjectRow) (payloads new_payloads : List (List ℕ))
+    (given : List ℕ) (place : ℕ) (made : ObjectRow) → KeepsStore rules before rows payloads →
+    find (has_id made.id) rows ≡ None → place ≡ place_in made.id rows → new_rows ≡ insert rows place made →
+    new_payloads ≡ payloads ++ given ∷ [] → made.kind < length rules.objects → 4 * (length rows + 1) ≤ 500000 →
+    moment ≤ 999999999999 → KeepsStore rules moment new_rows new_payloads
+keeps_created rules before moment rows new_rows payloads new_payloads given place made keeps none at added pushed kind room bound =
+    let all : new_rows ≡ put_object made rows = rows_after rows new_rows made made place none at refl added in
+    let more : length (put_object made rows) ≡ length rows + 1 = length_put made rows none in
+    let counts : length (put_object made rows) ≡ length (payloads ++ given ∷ []) =
+      more ∙ (ap (λ (n : ℕ). n + 1) keeps.counts ∙ sym (length_push payloads given)) in
+    let kept : KeepsStore rules moment (put_object made rows) (payloads ++ given ∷ []) = record {
+      rise = objects_rise_put made rows keeps.rise none;
+      kinds = kinds_put rules made rows kind keeps.kinds;
+      counts = counts;
+      room = subst (λ (n : ℕ). 4 * n ≤ 500000) (sym more) room;
+      moments = bound;
+    } in
+    subst (λ (rs : List ObjectRow). KeepsStore rules moment rs new_payloads) (sym all)
+    (subst (λ (ps : List (List ℕ)). KeepsStore rules moment (put_object made rows) ps) (sym pushed) kept)

@@ -8,6 +8,7 @@ use Rattle.delf_model.specs.declared.schema.ObjectType.{ObjectType}
 use Rattle.delf_model.specs.declared.schema.ObjectRule.{ObjectRule}
 use Rattle.delf_model.specs.declared.schema.ObjectRule.TheVariants.{Directly, DirectlyOnly, ByAny, ShortTtl, NotDeleted}
 use Rattle.delf_model.specs.Checked as checked
+use Rattle.delf_model.specs.RuleSet.{RuleSet}
 use Rattle.delf_model.specs.Checked.{IsChecked, IsExpiry, numbered}
 use Rattle.schema_lang.specs.Spelling.{IsSpellable, FitsRule, FitsObject}
 use Rattle.schema_lang.specs.Words.{line_of}
@@ -74,7 +75,8 @@ good_document bytes part document size good schema commands is rules = record {
 
 pub numbered_length : (document : Document) (bytes : List ℕ) → IsDocument bytes document →
     length document.rules.objects ≡ length document.schema.objects
-numbered_length document bytes is = rw is.rules (length-map (λ (object : ObjectType). object.rule) document.schema.objects)
+numbered_length document bytes is =
+    ap (λ (rules : RuleSet). length rules.objects) is.rules ∙ length-map document.schema.objects (λ (object : ObjectType). object.rule)
 
 -- the commands of the lines so far, before those of the rest
 
@@ -120,3 +122,10 @@ pub script_bad : (types : List ObjectType) (so_far : List Command) (whole : Opti
 script_bad types so_far whole line rows rest same split says =
     ap (λ (first : Option (List Command)). both (Some so_far) (both first (commands_of types rest))) (sym says)
     ∙ ap (λ (ls : List (List ℕ)). both (Some so_far) (commands_of types ls)) (sym split) ∙ same
+
+pub script_added : (types : List ObjectType) (so_far one new : List Command) (whole : Option (List Command)) (line : List ℕ)
+    (rows rest : List (List ℕ)) → both (Some so_far) (commands_of types rows) ≡ whole → rows ≡ line ∷ rest →
+    commands_of_line types (line_of line) ≡ Some one → new ≡ so_far ++ one → both (Some new) (commands_of types rest) ≡ whole
+script_added types so_far one new whole line rows rest same split says added =
+    ap (λ (all : List Command). both (Some all) (commands_of types rest)) added
+    ∙ script_more types so_far one whole line rows rest same split says

@@ -51,7 +51,6 @@ pub fn read_document(alloc: Global, bytes: &[u8]) -> Result<Document, DocumentFa
     ensures document { IfOk result (λ document. IsDocument bytes.now document) }
     ensures bad { result ≡ Err DocumentFault.Bad → IsNoDocument bytes.now }
     ensures kinds { IfOk result (λ document. All (NamesType (length document.schema.objects)) document.commands) }
-    ensures count { IfOk result (λ document. length document.commands ≤ length bytes.now) }
 {
     if bytes.len() > DOCUMENT_LIMIT {
         return Err(DocumentFault::Bad);
@@ -86,15 +85,16 @@ fn read_commands(
     requires { length types.now ≤ 64 }
     ensures meaning { IfOk result (λ read. read ≡ commands_of types.now (lines bytes.now)) }
     ensures kinds { IfOk result (λ read. IfSome read (λ commands. All (NamesType (length types.now)) commands)) }
-    ensures count { IfOk result (λ read. IfSome read (λ commands. length commands ≤ length bytes.now)) }
 {
     let mut commands = List::new(alloc);
     let mut rest = bytes;
     while let Some((line, after)) = split_line(rest) {
-        if !add_line(alloc, types, line, &mut commands)? {
+        let added = add_line(alloc, types, line, &mut commands)?;
+        if added {
+            rest = after;
+        } else {
             return Ok(None);
         }
-        rest = after;
     }
     Ok(Some(commands))
 }

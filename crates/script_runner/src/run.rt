@@ -87,7 +87,6 @@ fn run_source<S: Source, K: Sink>(
 }
 
 fn run_bytes<K: Sink>(alloc: Global, start: Moment, bytes: &[u8], sink: &mut K) -> Status
-    requires { length bytes.now ≤ 16777217 }
     ensures cause { BytesCause bytes.now (Rose (K.faults sink.old) (K.faults sink.new)) result }
     ensures text { IsTrue (K.told sink.old) → BytesText bytes.now start (K.held sink.old) (K.held sink.new) result }
     ensures same_sink { K.told sink.new ≡ K.told sink.old }
@@ -104,7 +103,6 @@ fn run_bytes<K: Sink>(alloc: Global, start: Moment, bytes: &[u8], sink: &mut K) 
 }
 
 fn run_document<K: Sink>(alloc: Global, start: Moment, document: Document, sink: &mut K) -> Status
-    requires count { length document.commands < 2 ^ 32 }
     requires kinds { All (NamesType (length document.schema.objects)) document.commands }
     requires numbered { length document.rules.objects ≡ length document.schema.objects }
     ensures cause { ScriptCause (Rose (K.faults sink.old) (K.faults sink.new)) result }
@@ -118,6 +116,10 @@ fn run_document<K: Sink>(alloc: Global, start: Moment, document: Document, sink:
         rules,
         commands,
     } = document;
+    // So many do not fit in a document.
+    if commands.len() > u32::MAX as usize {
+        return Status::OutOfMemory { done: 0 };
+    }
     let store = Store::new(alloc, rules, start);
     run_commands(alloc, &schema, store, commands.as_slice(), sink)
 }
@@ -143,9 +145,9 @@ fn run_commands<K: Sink>(
         let Ok(lines) = perform(alloc, schema, &mut store, command) else {
             return Status::OutOfMemory { done };
         };
-        if put_all(sink, lines.as_slice()).is_err() {
+        let Ok(()) = put_all(sink, lines.as_slice()) else {
             return Status::WriteFault { done };
-        }
+        };
         done += 1;
     }
     Status::Done

@@ -82,10 +82,11 @@ impl Store {
     pub fn payload(&self, position: u32) -> &[u8]
         ensures { result.now ≡ given_at self.now position }
     {
-        match self.payloads.get(position as usize) {
-            Some(payload) => payload.as_slice(),
-            None => &[],
+        let place = position as usize;
+        if place >= self.payloads.len() {
+            return &[];
         }
+        self.payloads[place].as_slice()
     }
 
     /// Makes an object, or gives the refusal, and then nothing is changed; nor is it for want of memory.
@@ -161,10 +162,10 @@ impl Store {
         };
         let payload = Bytes::of(alloc, payload)?;
         self.payloads.push(payload)?;
-        if self.rows.insert(place, row).is_err() {
+        let Ok(()) = self.rows.insert(place, row) else {
             let _payload = self.payloads.pop();
             return Err(AllocError);
-        }
+        };
         self.moment = moment;
         Ok(())
     }

@@ -1,4 +1,4 @@
-use Rattle.std.proofs.Common.{◌≡◌, ℕ, ◌+◌, ◌≤◌, Some, length}
+use Rattle.std.proofs.Common.{◌≡◌, Some, length}
 use Rattle.std.specs.List.{All}
 use Rattle.std.specs.Str.Lines.{lines}
 use Rattle.script_runner.specs.Documents.{both, commands_of}
@@ -9,7 +9,6 @@ abbrev pub invariant-loop-line : goal.invariant-loop-line
 invariant-loop-line l = record {
   same : both (Some l.commands) (commands_of l.types (lines l.rest)) ≡ commands_of l.types (lines l.bytes);
   kinds : All (NamesType (length l.types)) l.commands;
-  count : length l.commands + length l.rest ≤ length l.bytes;
 }
 
 abbrev pub decreases-loop-line : goal.decreases-loop-line
