@@ -1,0 +1,154 @@
+ghost use Rattle.std.specs.Prelude.{◌≡◌, ◌++◌, ◌<◌, ◌≤◌, ◌^◌, ℕ, List, IsTrue, map, length, string_bytes};
+ghost use Rattle.std.specs.List.{All};
+ghost use Rattle.delf_io.specs.Faults.{Rose};
+ghost use Rattle.script_runner.specs.Documents.{start_of};
+ghost use Rattle.script_runner.specs.Stores.{NamesType};
+ghost use Rattle.script_runner.specs.Serial.{first_world};
+ghost use Rattle.script_runner.specs.Outcomes.{RunText, RunCause, UsageText, UsageCause, SourceText, SourceCause, BytesText, BytesCause, ScriptText, ScriptCause};
+
+use crate::document::{Command, Document, DocumentFault, read_document};
+use crate::put::put_all;
+use crate::read::{ReadError, read_at_most};
+use crate::script::perform;
+use crate::status::Status;
+use crate::store::Store;
+use crate::words::read_words;
+use delf_io::{Clock, Sink, Source};
+use delf_model::{Moment, Schema};
+use std::alloc::Global;
+
+/// The greatest number of bytes that are read: one more than a document has.
+const READ_LIMIT: usize = 16_777_217;
+
+/// Runs the program with these words: reads a document from `source`, makes its commands from the empty history on at
+/// the moment that the words give, and puts their lines to `sink`. The clock is not asked.
+pub fn run_plain<S: Source, K: Sink, C: Clock>(
+    alloc: Global,
+    words: &[String],
+    source: &mut S,
+    sink: &mut K,
+    _clock: &mut C,
+) -> Status
+    // Why it ended so, and what it put.
+    ensures cause { RunCause (start_of (map string_bytes words.now)) (S.told source.old) (S.left source.old)
+        (Rose (S.faults source.old) (S.faults source.new)) (Rose (K.faults sink.old) (K.faults sink.new)) result }
+    ensures text { IsTrue (K.told sink.old) → RunText (start_of (map string_bytes words.now)) (S.told source.old)
+        (S.left source.old) (K.held sink.old) (K.held sink.new) result }
+
+    // What it leaves.
+    ensures read { IsTrue (S.told source.old) → (read : List ℕ) × (length read ≤ 16777217)
+        × (S.left source.old ≡ read ++ S.left source.new) }
+    ensures same_source { S.told source.new ≡ S.told source.old }
+    ensures same_sink { K.told sink.new ≡ K.told sink.old }
+    ensures source_faults { S.faults source.old ≤ S.faults source.new }
+    ensures sink_faults { K.faults sink.old ≤ K.faults sink.new }
+    ensures unasked { C.times_asked _clock.new ≡ C.times_asked _clock.old }
+{
+    match read_words(words) {
+        Some(start) => run_source(alloc, start, source, sink),
+        None => put_usage(sink),
+    }
+}
+
+fn put_usage<K: Sink>(sink: &mut K) -> Status
+    ensures cause { UsageCause (Rose (K.faults sink.old) (K.faults sink.new)) result }
+    ensures text { IsTrue (K.told sink.old) → UsageText (K.held sink.old) (K.held sink.new) result }
+    ensures same_sink { K.told sink.new ≡ K.told sink.old }
+    ensures sink_faults { K.faults sink.old ≤ K.faults sink.new }
+{
+    match put_all(sink, b"usage: delf run [--at N] | check | load N\n") {
+        Ok(()) => Status::Usage,
+        Err(_) => Status::WriteFault { done: 0 },
+    }
+}
+
+fn run_source<S: Source, K: Sink>(
+    alloc: Global,
+    start: Moment,
+    source: &mut S,
+    sink: &mut K,
+) -> Status
+    ensures cause { SourceCause (S.told source.old) (S.left source.old)
+        (Rose (S.faults source.old) (S.faults source.new)) (Rose (K.faults sink.old) (K.faults sink.new)) result }
+    ensures text { IsTrue (K.told sink.old) → SourceText (S.told source.old) (S.left source.old) start
+        (K.held sink.old) (K.held sink.new) result }
+    ensures read { IsTrue (S.told source.old) → (read : List ℕ) × (length read ≤ 16777217)
+        × (S.left source.old ≡ read ++ S.left source.new) }
+    ensures same_source { S.told source.new ≡ S.told source.old }
+    ensures same_sink { K.told sink.new ≡ K.told sink.old }
+    ensures source_faults { S.faults source.old ≤ S.faults source.new }
+    ensures sink_faults { K.faults sink.old ≤ K.faults sink.new }
+{
+    match read_at_most(alloc, source, READ_LIMIT) {
+        Ok(bytes) => run_bytes(alloc, start, bytes.as_slice(), sink),
+        Err(ReadError::Failed) => Status::ReadFault,
+        Err(ReadError::OutOfMemory) => Status::OutOfMemory { done: 0 },
+    }
+}
+
+fn run_bytes<K: Sink>(alloc: Global, start: Moment, bytes: &[u8], sink: &mut K) -> Status
+    ensures cause { BytesCause bytes.now (Rose (K.faults sink.old) (K.faults sink.new)) result }
+    ensures text { IsTrue (K.told sink.old) → BytesText bytes.now start (K.held sink.old) (K.held sink.new) result }
+    ensures same_sink { K.told sink.new ≡ K.told sink.old }
+    ensures sink_faults { K.faults sink.old ≤ K.faults sink.new }
+{
+    match read_document(alloc, bytes) {
+        Ok(document) => run_document(alloc, start, document, sink),
+        Err(DocumentFault::Bad) => match put_all(sink, b"bad document\n") {
+            Ok(()) => Status::BadDocument { line: 0 },
+            Err(_) => Status::WriteFault { done: 0 },
+        },
+        Err(DocumentFault::OutOfMemory) => Status::OutOfMemory { done: 0 },
+    }
+}
+
+fn run_document<K: Sink>(alloc: Global, start: Moment, document: Document, sink: &mut K) -> Status
+    requires kinds { All (NamesType (length document.schema.objects)) document.commands }
+    requires numbered { length document.rules.objects ≡ length document.schema.objects }
+    ensures cause { ScriptCause (Rose (K.faults sink.old) (K.faults sink.new)) result }
+    ensures text { IsTrue (K.told sink.old) → ScriptText document.schema (first_world document.rules start)
+        document.commands (K.held sink.old) (K.held sink.new) result }
+    ensures same_sink { K.told sink.new ≡ K.told sink.old }
+    ensures sink_faults { K.faults sink.old ≤ K.faults sink.new }
+{
+    let Document {
+        schema,
+        rules,
+        commands,
+    } = document;
+    // So many do not fit in a document.
+    if commands.len() > u32::MAX as usize {
+        return Status::OutOfMemory { done: 0 };
+    }
+    let store = Store::new(alloc, rules, start);
+    run_commands(alloc, &schema, store, commands.as_slice(), sink)
+}
+
+fn run_commands<K: Sink>(
+    alloc: Global,
+    schema: &Schema,
+    mut store: Store,
+    commands: &[Command],
+    sink: &mut K,
+) -> Status
+    requires count { length commands.now < 2 ^ 32 }
+    requires kinds { All (NamesType (length schema.now.objects)) commands.now }
+    requires numbered { length store.state.rules.objects ≡ length schema.now.objects }
+    ensures cause { ScriptCause (Rose (K.faults sink.old) (K.faults sink.new)) result }
+    ensures text { IsTrue (K.told sink.old) → ScriptText schema.now store commands.now (K.held sink.old)
+        (K.held sink.new) result }
+    ensures same_sink { K.told sink.new ≡ K.told sink.old }
+    ensures sink_faults { K.faults sink.old ≤ K.faults sink.new }
+{
+    let mut done = 0u32;
+    for command in commands {
+        let Ok(lines) = perform(alloc, schema, &mut store, command) else {
+            return Status::OutOfMemory { done };
+        };
+        let Ok(()) = put_all(sink, lines.as_slice()) else {
+            return Status::WriteFault { done };
+        };
+        done += 1;
+    }
+    Status::Done
+}

@@ -1,0 +1,35 @@
+ghost use Rattle.std.specs.Prelude.{◌≡◌};
+ghost use Rattle.script_runner.specs.Codes.{code_of};
+
+/// How a run ended.
+#[derive(Clone, Copy, PartialEq, Eq, Debug)]
+pub enum Status {
+    /// The document was read to its end, and every command was made.
+    Done,
+    /// The words are no command of the program.
+    Usage,
+    /// What was read is no document; nothing was run. The line is that of the fault, 0 where none is told.
+    BadDocument { line: u32 },
+    /// The source failed.
+    ReadFault,
+    /// The sink failed in the lines of the command with this number, from 0; that command was made, and none after it.
+    WriteFault { done: u32 },
+    /// Want of memory, after so many commands.
+    OutOfMemory { done: u32 },
+}
+
+impl Status {
+    /// The status with which the program ends.
+    pub fn code(&self) -> u8
+        ensures { result ≡ code_of self.now }
+    {
+        match self {
+            Status::Done => 0,
+            Status::Usage => 1,
+            Status::BadDocument { .. } => 2,
+            Status::ReadFault => 3,
+            Status::WriteFault { .. } => 4,
+            Status::OutOfMemory { .. } => 5,
+        }
+    }
+}
