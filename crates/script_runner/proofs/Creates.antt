@@ -60,13 +60,20 @@ pub next_state : (rules : RuleSet) (before moment : ℕ) (rows : List ObjectRow)
 next_state rules before moment rows payloads given tag kind id size root =
     let row = new_object (created_state rules before rows payloads) moment kind id size in
     let made : List ℕ → Owners → ℕ → State = λ seats owners len. record {
-      rules = rules; len = len; moment = moment; graph = record { objects = put_object row rows; edges = [] };
-      owners = owners; items = []; jobs = []; seats = seats } in
+      rules = rules;
+      len = len;
+      moment = moment;
+      graph = record { objects = put_object row rows; edges = [] };
+      owners = owners;
+      items = [];
+      jobs = [];
+      seats = seats;
+    } in
     let owned : Owners = map (owned_row rules (record { objects = rows; edges = [] }) (record { objects = put_object row rows; edges = [] }) None (length payloads) (map unowned rows)) (put_object row rows) in
     ap (λ (seat : ℕ). made (map root_seat payloads ++ seat ∷ []) owned (length payloads + 1)) root
     ∙ ap (λ (seats : List ℕ). made seats owned (length payloads + 1)) (sym (map-append root_seat payloads (given ∷ [])))
     ∙ ap (λ (owners : Owners). made (map root_seat (payloads ++ given ∷ [])) owners (length payloads + 1))
-      (owners_stay rules rows (record { objects = put_object row rows; edges = [] }) (length payloads) (put_object row rows))
+    (owners_stay rules rows (record { objects = put_object row rows; edges = [] }) (length payloads) (put_object row rows))
     ∙ ap (λ (len : ℕ). made (map root_seat (payloads ++ given ∷ [])) (map unowned (put_object row rows)) len) (sym (length_push payloads given))
 
 placed_push : (k : ℕ) (payloads : List (List ℕ)) (given : List ℕ) →
@@ -86,7 +93,7 @@ next_world_is rules clock before moment rows payloads given tag kind id size roo
     let at : 0 + length payloads ≡ length payloads = omega arith in
     ap (λ (state : State). made state (placed_from 0 (payloads ++ given ∷ []))) (sym (next_state rules before moment rows payloads given tag kind id size root))
     ∙ ap (λ (placed : List (ℕ × List ℕ)). made (step (created_state rules before rows payloads) (record { moment = moment; what = Create tag kind id size })) placed)
-      (placed_push 0 payloads given ∙ ap (λ (n : ℕ). placed_from 0 payloads ++ (n, given) ∷ []) at)
+    (placed_push 0 payloads given ∙ ap (λ (n : ℕ). placed_from 0 payloads ++ (n, given) ∷ []) at)
     ∙ ap (λ (m : ℕ). made (step (created_state rules before rows payloads) (record { moment = m; what = Create tag kind id size })) (placed_from 0 payloads ++ (length payloads, given) ∷ [])) is
 
 -- the payload at a position
@@ -184,7 +191,7 @@ unfolding of_three
 refused_taken s moment tag kind id size birth small taken =
     ap (λ (a : Option Refusal). of_three a (name_taken s id) (full s moment (Create tag kind id size))) (not_long size small)
     ∙ ap (λ (b : Option Refusal). of_three None b (full s moment (Create tag kind id size)))
-      (taken_by s.graph.objects id birth (find (has_id id) s.graph.objects) refl taken)
+    (taken_by s.graph.objects id birth (find (has_id id) s.graph.objects) refl taken)
 
 pub absent_by : (found : Option ObjectRow) → None ≡ option_map (λ (row : ObjectRow). row.birth) found → found ≡ None
 absent_by None same = refl
@@ -287,7 +294,7 @@ keeps_created rules before moment rows new_rows payloads new_payloads given plac
     let all : new_rows ≡ put_object made rows = rows_after rows new_rows made made place none at refl added in
     let more : length (put_object made rows) ≡ length rows + 1 = length_put made rows none in
     let counts : length (put_object made rows) ≡ length (payloads ++ given ∷ []) =
-      more ∙ (ap (λ (n : ℕ). n + 1) keeps.counts ∙ sym (length_push payloads given)) in
+    more ∙ (ap (λ (n : ℕ). n + 1) keeps.counts ∙ sym (length_push payloads given)) in
     let kept : KeepsStore rules moment (put_object made rows) (payloads ++ given ∷ []) = record {
       rise = objects_rise_put made rows keeps.rise none;
       kinds = kinds_put rules made rows kind keeps.kinds;

@@ -24,7 +24,7 @@ text_of-push schema w [] command = append-nil (lines_of schema w command)
 text_of-push schema w (first ∷ commands) command =
     ap (λ (t : List ℕ). lines_of schema w first ++ t) (text_of-push schema (next_world w first) commands command)
     ∙ sym (append_assoc (lines_of schema w first) (text_of schema (next_world w first) commands)
-      (lines_of schema (world_after (next_world w first) commands) command))
+    (lines_of schema (world_after (next_world w first) commands) command))
 
 pub text_of-none : (schema : Schema) (w : World) → text_of schema w [] ≡ []
 unfolding text_of
@@ -50,9 +50,9 @@ text_more schema w commands i command before between after lines here below is w
     put ∙ ap (λ (t : List ℕ). t ++ lines) held
     ∙ append_assoc before (text_of schema w (take i commands)) lines
     ∙ ap (λ (t : List ℕ). before ++ (text_of schema w (take i commands) ++ t))
-      (said ∙ ap (λ (v : World). lines_of schema v command) world)
+    (said ∙ ap (λ (v : World). lines_of schema v command) world)
     ∙ ap (λ (t : List ℕ). before ++ t)
-      (sym (text_of-push schema w (take i commands) command) ∙ ap (λ (cs : List Command). text_of schema w cs) (sym taken))
+    (sym (text_of-push schema w (take i commands) command) ∙ ap (λ (cs : List Command). text_of schema w cs) (sym taken))
 
 pub world_more : (w : World) (commands : List Command) (i : ℕ) (command : Command) (here next : World) →
     i < length commands → command ≡ get_or commands i command → here ≡ world_after w (take i commands) →
@@ -77,7 +77,7 @@ script_cut schema w commands i command before between after lines here below is 
   command = command;
   there = got commands i command below is;
   cut = subst (λ (t : List ℕ). IsCut t after (lines_of schema (world_after w (take i commands)) command)) held
-        (subst (λ (t : List ℕ). IsCut between after t) (said ∙ ap (λ (v : World). lines_of schema v command) world) cut);
+      (subst (λ (t : List ℕ). IsCut between after t) (said ∙ ap (λ (v : World). lines_of schema v command) world) cut);
 }
 
 -- no command changes the rules

@@ -50,11 +50,11 @@ pub show_more : (schema : Schema) (w : World) (rows : List ObjectRow) (i : ℕ) 
     after ≡ head ++ flat_map (object_line schema w) (take (i + 1) rows)
 show_more schema w rows i row object payload head before after line below is kind at given free said so_far put =
     let line_is : line ≡ object_line schema w row =
-      said ∙ ap (λ (name : List ℕ). object_text row name payload None) (type_at schema.objects row.kind object kind at)
-      ∙ ap (λ (p : List ℕ). object_text row (kind_name schema row.kind) p None) given
-      ∙ ap (λ (o : Option ℕ). object_text row (kind_name schema row.kind) (given_at w row.at) o) (sym free) in
+    said ∙ ap (λ (name : List ℕ). object_text row name payload None) (type_at schema.objects row.kind object kind at)
+    ∙ ap (λ (p : List ℕ). object_text row (kind_name schema row.kind) p None) given
+    ∙ ap (λ (o : Option ℕ). object_text row (kind_name schema row.kind) (given_at w row.at) o) (sym free) in
     let taken : take (i + 1) rows ≡ take i rows ++ row ∷ [] =
-      take_more rows i row below ∙ ap (λ (r : ObjectRow). take i rows ++ r ∷ []) (sym is) in
+    take_more rows i row below ∙ ap (λ (r : ObjectRow). take i rows ++ r ∷ []) (sym is) in
     put ∙ ap (λ (t : List ℕ). t ++ line) so_far
     ∙ ap (λ (t : List ℕ). (head ++ flat_map (object_line schema w) (take i rows)) ++ t) line_is
     ∙ flat_map_more (object_line schema w) head (take i rows) row
@@ -66,4 +66,4 @@ show_all schema w rows text same none is =
     is ∙ ap (λ (rs : List ObjectRow). graph_text (length rs) 0 ++ flat_map (object_line schema w) rs) same
     ∙ sym (append-nil (graph_text (length w.state.graph.objects) 0 ++ flat_map (object_line schema w) w.state.graph.objects))
     ∙ ap (λ (edges : List EdgeRow). graph_text (length w.state.graph.objects) (length edges)
-      ++ flat_map (object_line schema w) w.state.graph.objects ++ flat_map (edge_line schema w) edges) (sym none)
+    ++ flat_map (object_line schema w) w.state.graph.objects ++ flat_map (edge_line schema w) edges) (sym none)

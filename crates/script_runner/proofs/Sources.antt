@@ -42,13 +42,13 @@ source_text told left read rest start before after (BadDocument line) whole shor
 source_text told left read rest start before after ReadFault whole short text = absurd text
 source_text told left read rest start before after (WriteFault done) whole short text =
     λ t. elim text [
-      inl x ↦ inl (lift_none left read rest (whole t) (short t) x.0, x.1)
-    | inr x ↦ inr (lift_runs left read rest start before after (WriteFault done) (whole t) (short t) x)
+      | inl x ↦ inl (lift_none left read rest (whole t) (short t) x.0, x.1)
+      | inr x ↦ inr (lift_runs left read rest start before after (WriteFault done) (whole t) (short t) x)
     ]
 source_text told left read rest start before after (OutOfMemory done) whole short text =
     λ t. elim text [
-      inl x ↦ inl x
-    | inr x ↦ inr (lift_runs left read rest start before after (OutOfMemory done) (whole t) (short t) x)
+      | inl x ↦ inl x
+      | inr x ↦ inr (lift_runs left read rest start before after (OutOfMemory done) (whole t) (short t) x)
     ]
 
 pub source_cause : (told : Bool) (left read rest : List ℕ) (read_rose write_rose : Type 0) (status : Status) →

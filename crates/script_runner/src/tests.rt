@@ -5,9 +5,11 @@ use delf_io::{Bytes, ListClock, MemSink, MemSource, Numbers};
 use std::alloc::{AllocError, Global};
 use std::test::Fail;
 
-const DOCUMENT: &str = "schema 1\r\nwindow 60\n\tobject user directly\nscript\n# a comment\ncreate 7 user \"a\\x00\"\ncreate 7 user\ncreate 2 user\nshow";
+const DOCUMENT: &str =
+    "schema 1\r\nwindow 60\n\tobject user directly\nscript\n# a comment\ncreate 7 user \"a\\x00\"\ncreate 7 user\ncreate 2 user\nshow";
 
-const TEXT: &str = "0 created 7\nrefused 6 at 1 name taken 7 birth 0\n1 created 2\ngraph 2 0\nobject 2 user birth 1 \"\"\nobject 7 user birth 0 \"a\\x00\"\n";
+const TEXT: &str =
+    "0 created 7\nrefused 6 at 1 name taken 7 birth 0\n1 created 2\ngraph 2 0\nobject 2 user birth 1 \"\"\nobject 7 user birth 0 \"a\\x00\"\n";
 
 fn run_words(
     alloc: Global,
@@ -41,7 +43,10 @@ fn a_document_is_run(rt: HostRuntime) -> Result<(), Fail> {
 fn other_words_are_no_command(rt: HostRuntime) -> Result<(), Fail> {
     let (status, sink) = run_words(rt.alloc(), &["run", "--at", "05"], DOCUMENT, &[], &[])?;
     assert_eq!(rt; status, Status::Usage);
-    assert_eq!(rt; sink.held(), b"usage: delf run [--at N] | check | load N\n".as_slice());
+    assert_eq!(rt;
+        sink.held(),
+        b"usage: delf run [--at N] | check | load N\n".as_slice()
+    );
     Ok(())
 }
 

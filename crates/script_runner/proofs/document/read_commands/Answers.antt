@@ -14,7 +14,7 @@ loop-line-preserved c =
     let adds = subst (λ (b : Bool). AddsLine c.args.types.now c.in-Some.line.now c.loop-line.commands c.add_line.new.commands b) c.if-added.true c.in_ok-added.ensures in
     record {
       same = script_added c.args.types.now c.loop-line.commands adds.0 c.add_line.new.commands (commands_of c.args.types.now (lines c.args.bytes.now)) c.in-Some.line.now
-        (lines c.loop-line.rest.now) (lines c.in-Some.after.now) c.loop-line.invariant.same c.in-Some.ensures.lines adds.1 adds.2;
+          (lines c.loop-line.rest.now) (lines c.in-Some.after.now) c.loop-line.invariant.same c.in-Some.ensures.lines adds.1 adds.2;
       kinds = subst (λ (cs : List Command). All (NamesType (length c.args.types.now)) cs) (sym adds.2)
-        (All-append (NamesType (length c.args.types.now)) c.loop-line.commands adds.0 c.loop-line.invariant.kinds adds.4);
+          (All-append (NamesType (length c.args.types.now)) c.loop-line.commands adds.0 c.loop-line.invariant.kinds adds.4);
     }

@@ -14,8 +14,9 @@ held-two_pieces before between after text at taken first second =
 
 pub turns-preserved : goal.turns-preserved
 turns-preserved g c =
-    let added = c.in-Ok.ensures.added in
-    ( omega (arith, c.in-Ok.ensures.within.0)
-    , grind (arith, c.put.ensures.same_told)
-    , (λ told. held-two_pieces _ _ _ c.args.text.now c.turns.at c.in-Ok.taken (c.turns.invariant.2 told) (added (grind (arith, told))))
-    , grind arith )
+    let added = c.in-Ok.ensures.added in (
+      omega (arith, c.in-Ok.ensures.within.0),
+      grind (arith, c.put.ensures.same_told),
+      (λ told. held-two_pieces _ _ _ c.args.text.now c.turns.at c.in-Ok.taken (c.turns.invariant.2 told) (added (grind (arith, told)))),
+      grind arith,
+    )

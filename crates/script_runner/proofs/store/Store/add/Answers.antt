@@ -38,7 +38,7 @@ returns-clause-made c =
     c.args.kind c.args.id (length c.args.payload.now) c.args.place _ c.self.view_is
     (c.max-moment.ensures ∙ ap (λ (n : ℕ). max c.self.inside.moment n) c.min.ensures) none at
     (row_is (created_state c.self.inside.rules c.self.inside.moment c.self.inside.rows.items c.self.inside.payloads.items)
-      c.max-moment.result c.args.kind c.args.id (length c.args.payload.now) c.len-position.result c.due_of.result
-      (c.len-position.ensures ∙ sym (ap (λ (w : World). w.state.len) c.self.view_is))
-      (c.due_of.ensures ∙ ap (λ (rule : Option ObjectRule). due_of rule c.max-moment.result) c.object.ensures))
+    c.max-moment.result c.args.kind c.args.id (length c.args.payload.now) c.len-position.result c.due_of.result
+    (c.len-position.ensures ∙ sym (ap (λ (w : World). w.state.len) c.self.view_is))
+    (c.due_of.ensures ∙ ap (λ (rule : Option ObjectRule). due_of rule c.max-moment.result) c.object.ensures))
     c.in-Ok.ensures.items (c.in_ok-push.ensures.items ∙ ap (λ (given : List ℕ). c.self.inside.payloads.items ++ given ∷ []) c.in_ok-payload.ensures)

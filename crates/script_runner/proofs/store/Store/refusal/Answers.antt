@@ -18,18 +18,18 @@ returns-in-Some-clause-refusal c = λ tag moment kind root.
 pub returns-then-used-gt-ROOM_LIMIT-clause-refusal : goal.returns-then-used-gt-ROOM_LIMIT-clause-refusal
 returns-then-used-gt-ROOM_LIMIT-clause-refusal c = λ tag moment kind root.
     let born : None ≡ option_map (λ (row : ObjectRow). row.birth) (find (has_id c.args.id) c.self.inside.rows.items) =
-      sym c.in_default.is ∙ c.birth_at.ensures ∙ ap (λ (rs : List ObjectRow). option_map (λ (row : ObjectRow). row.birth) (find (has_id c.args.id) rs)) c.deref.ensures.value in
+    sym c.in_default.is ∙ c.birth_at.ensures ∙ ap (λ (rs : List ObjectRow). option_map (λ (row : ObjectRow). row.birth) (find (has_id c.args.id) rs)) c.deref.ensures.value in
     let none : find (has_id c.args.id) c.self.inside.rows.items ≡ None = absent_by (find (has_id c.args.id) c.self.inside.rows.items) born in
     let count : length c.self.inside.rows.items ≡ c.len-used.result = omega arith in
     subst (λ (w : World). refused w.state moment (Create tag kind c.args.id c.args.size) ≡ Some (Full c.len-used.result (3 * c.len-used.result))) c.self.view_is
     (refused_full c.self.inside.rules c.self.inside.moment moment c.self.inside.rows.items c.self.inside.payloads.items tag kind c.args.id c.args.size
-      root c.self.invariant.counts (omega arith) none (omega arith) ∙ ap (λ (n : ℕ). Some (Full n (3 * n))) count)
+    root c.self.invariant.counts (omega arith) none (omega arith) ∙ ap (λ (n : ℕ). Some (Full n (3 * n))) count)
 
 pub returns-clause-refusal : goal.returns-clause-refusal
 returns-clause-refusal c = λ tag moment kind root.
     let born : None ≡ option_map (λ (row : ObjectRow). row.birth) (find (has_id c.args.id) c.self.inside.rows.items) =
-      sym c.in_default.is ∙ c.birth_at.ensures ∙ ap (λ (rs : List ObjectRow). option_map (λ (row : ObjectRow). row.birth) (find (has_id c.args.id) rs)) c.deref.ensures.value in
+    sym c.in_default.is ∙ c.birth_at.ensures ∙ ap (λ (rs : List ObjectRow). option_map (λ (row : ObjectRow). row.birth) (find (has_id c.args.id) rs)) c.deref.ensures.value in
     let none : find (has_id c.args.id) c.self.inside.rows.items ≡ None = absent_by (find (has_id c.args.id) c.self.inside.rows.items) born in
     subst (λ (w : World). refused w.state moment (Create tag kind c.args.id c.args.size) ≡ None) c.self.view_is
     (refused_not c.self.inside.rules c.self.inside.moment moment c.self.inside.rows.items c.self.inside.payloads.items tag kind c.args.id c.args.size
-      root c.self.invariant.counts (omega arith) none (omega arith))
+    root c.self.invariant.counts (omega arith) none (omega arith))
