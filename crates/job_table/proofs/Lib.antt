@@ -1,4 +1,7 @@
 pub mod Applied
+pub mod Dues
+pub mod Firsts
+pub mod Leasts
 pub mod Places
 pub mod Lefts
 pub mod Listing

@@ -39,7 +39,7 @@ listed_push job j (x ∷ xs) y =
     ap (λ (l : List Listed). l ++ cond (is_of_job job x) (listed_by j x.item x.handled) []) (listed_push job (j + 1) xs y ∙ ap (λ (n : ℕ). list_of (listing_of job n y) ++ listed_from job (j + 1) xs) same)
     ∙ append_assoc (list_of (listing_of job (j + length (x ∷ xs)) y)) (listed_from job (j + 1) xs) (cond (is_of_job job x) (listed_by j x.item x.handled) [])
 
-length_take : {A : Type 0} (xs : List A) (i : ℕ) → i ≤ length xs → length (take i xs) ≡ i
+pub length_take : {A : Type 0} (xs : List A) (i : ℕ) → i ≤ length xs → length (take i xs) ≡ i
 length_take xs zero l = refl
 length_take [] (suc i) l = absurd (omega arith)
 length_take (x ∷ xs) (suc i) l = ap suc (length_take xs i (omega arith))

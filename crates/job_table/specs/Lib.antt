@@ -4,4 +4,5 @@ pub mod Items
 pub mod Next
 pub mod Notes
 pub mod Parts
+pub mod Serial
 pub mod Table

@@ -1,4 +1,5 @@
-ghost use Rattle.std.specs.Prelude.{◌≡◌, ◌+◌, ◌<◌, ◌≤◌, ◌^◌, ◌++◌, ◌∷◌, [], OnOk, length, slice_get, option_map, count_by, sum_by, cond, is_some, nat_eq, ◌-◌, ◌&&◌};
+ghost use Rattle.std.specs.Prelude.{◌≡◌, ◌+◌, ◌<◌, ◌≤◌, ◌^◌, ◌++◌, ◌∷◌, [], OnOk, length, slice_get, option_map, count_by, sum_by, cond, is_some, nat_eq, ◌-◌, ◌&&◌, Some};
+ghost use Rattle.delf_model.specs.Order.{last_place};
 ghost use Rattle.job_table.specs.Parts.{logged_of, handled_of};
 ghost use Rattle.delf_model.specs.State.{unhandled, handled_at, job_of as job_of_item, is_object_item};
 ghost use Rattle.delf_model.specs.Report.{is_of_job, is_object_of, is_edge_of, is_put_of, is_listed_of, listed_from, was_put as was_put_back, was_listed as was_listed_so};
@@ -148,6 +149,17 @@ impl Items {
             .count() as u32
     }
 
+    /// The greatest number of an unhandled item of the job.
+    pub fn last_unhandled(&self, job: Job) -> Option<u32>
+        ensures { result ≡ last_place (is_unhandled_of job) 0 self.now.list }
+    {
+        let mut last = None;
+        for (i, kept) in self.items.iter().enumerate() {
+            last = last_with(last, i as u32, kept, job);
+        }
+        last
+    }
+
     /// What the unhandled items of the job count once it is restored.
     pub fn weight(&self, job: Job) -> u32
         requires { sum_by (weight_of job) self.now.list < 2 ^ 32 }
@@ -223,6 +235,16 @@ fn is_asked(found: &Option<Listed>, left: u32) -> bool
         Some(_) => left == 0,
         None => false,
     }
+}
+
+/// This number where its item is an unhandled one of the job, else what was found before.
+fn last_with(last: Option<u32>, i: u32, kept: &Kept, job: Job) -> Option<u32>
+    ensures { result ≡ cond (is_unhandled_of job (logged_of kept.now)) (Some i) last }
+{
+    if job_of(&kept.item) == job.0 && kept.handled.is_none() {
+        return Some(i);
+    }
+    last
 }
 
 /// How many lines are still to be passed after one that may be there.

@@ -1,4 +1,4 @@
-ghost use Rattle.std.specs.Prelude.{◌≡◌, ◌+◌, ◌<◌, ◌≤◌, ◌^◌, ◌++◌, ◌∷◌, [], OnOk, length, slice_get, option_map, cond, Some};
+ghost use Rattle.std.specs.Prelude.{◌≡◌, ◌+◌, ◌<◌, ◌≤◌, ◌^◌, ◌++◌, ◌∷◌, [], OnOk, length, slice_get, option_map, map, cond, Some};
 ghost use Rattle.std.specs.List.{position};
 ghost use Rattle.job_table.specs.Parts.{row_of, changed_first, is_start};
 ghost use Rattle.delf_model.specs.State.{job_row, find_job, new_job, starts_at, restored_at, purged_if, erased_at};
@@ -69,6 +69,13 @@ impl Jobs {
             purged: false,
             last: None,
         });
+    }
+
+    /// The rows, by age.
+    pub fn rows(&self) -> &[Row]
+        ensures { map row_of result.now ≡ self.now.list }
+    {
+        &self.rows
     }
 
     pub fn at(&self, i: u32) -> Option<Row>

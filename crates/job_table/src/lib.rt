@@ -8,6 +8,7 @@ mod jobs;
 mod next;
 mod owners;
 mod seats;
+mod serial;
 mod table;
 
 pub use next::Next;

@@ -1,6 +1,8 @@
-ghost use Rattle.std.specs.Prelude.{◌≡◌, ◌+◌, ◌<◌, ◌≤◌, ◌^◌, ◌++◌, ◌∷◌, [], None, cond, nat_eq, OnOk, length, ℕ};
+ghost use Rattle.std.specs.Prelude.{◌≡◌, ◌+◌, ◌<◌, ◌≤◌, ◌^◌, ◌++◌, ◌∷◌, [], None, cond, nat_eq, OnOk, length, ℕ, IsTrue};
 ghost use Rattle.std.specs.List.{position};
-ghost use Rattle.job_table.specs.Parts.{is_owned_id};
+ghost use Rattle.job_table.specs.Parts.{is_owned_id, pair_of};
+ghost use Rattle.job_table.specs.Serial.{least_among, with_pair};
+ghost use Rattle.job_table.specs.Apart.{are_apart as are_apart_pairs};
 ghost use Rattle.job_table.specs.Table.{owner_among, owned_among};
 ghost use Rattle.delf_model.specs.State.{is_job};
 
@@ -85,11 +87,42 @@ impl Owners {
         }
     }
 
+    /// The least id that the job owns.
+    pub fn least(&self, job: Job) -> Option<ObjectId>
+        ensures value { result ≡ least_among job self.now.list }
+        ensures apart { IsTrue (are_apart_pairs self.now.list) }
+    {
+        let mut least = None;
+        for pair in &self.pairs {
+            least = lesser(least, pair, job);
+        }
+        least
+    }
+
     /// How many objects the job owns.
     pub fn owned(&self, job: Job) -> u32
         ensures { result ≡ owned_among self.now.list job }
     {
         self.pairs.iter().filter(|pair| pair.job.0 == job.0).count() as u32
+    }
+}
+
+/// The lesser of what was found and this id, where the job owns it.
+fn lesser(least: Option<ObjectId>, pair: &Owned, job: Job) -> Option<ObjectId>
+    ensures { result ≡ with_pair job least (pair_of pair.now) }
+{
+    if pair.job.0 != job.0 {
+        return least;
+    }
+    match least {
+        Some(id) => {
+            if id.get() <= pair.id.get() {
+                least
+            } else {
+                Some(pair.id)
+            }
+        }
+        None => Some(pair.id),
     }
 }
 

@@ -1,0 +1,222 @@
+use Rattle.std.proofs.Common.{◌≡◌, ℕ, zero, suc, ◌+◌, ◌<◌, Bool, true, false, cond, ◌&&◌, ◌||◌, not, List, ◌∷◌, ◌++◌, [], map, length, get_or, take, Option, Some, None, is_some, refl, sym, ◌∙◌, ap, subst, arith}
+use Rattle.std.specs.Prelude.{nat_eq, nat_lt, find, option_map, slice_get, count_by, is_none}
+use Rattle.std.specs.List.{position, list_all, list_any}
+use Rattle.std.proofs.lemmas.List.Quantifiers.{position-Some}
+use Rattle.delf_model.specs.declared.entry.What.TheVariants.{Cut, Erase, Purge}
+use Rattle.delf_model.specs.Graph.{Graph, objects_rise}
+use Rattle.delf_model.specs.State.{State, JobRow, Logged, owned, is_pair_of, job_row, is_restored, is_restored_row, left, is_open_of, job_of, first_of_two}
+use Rattle.delf_model.specs.Legal.{last_erasure_or_zero}
+use Rattle.delf_model.specs.Order.{is_restoring, is_oldest_restoring, is_no_older, owns_some, purges, last_place, first_put, first_erasure, first_purge, put_of, put_of_job, erasure_of_pair, erasure_of_job, purge_of, cut_or_erase}
+use Rattle.job_table.specs.declared.jobs.Row.{Row}
+use Rattle.job_table.specs.Table.{Table, IsTableOf, Keeps, owned_among}
+use Rattle.job_table.specs.Parts.{row_of, logged_of, ItemPart}
+use Rattle.job_table.specs.declared.items.Kept.{Kept}
+use Rattle.job_table.proofs.Listing.{length_take}
+use Rattle.job_table.specs.Items.{is_unhandled_of}
+use Rattle.delf_model.specs.declared.rows.EdgeRow.{EdgeRow}
+use Rattle.job_table.specs.Apart.{are_apart}
+use Rattle.job_table.proofs.Leasts.{least_is_first, first_id}
+use Rattle.job_table.specs.Serial.{least_among, erasure_of_least, owns_in, left_in, restoring_in, is_elder, is_oldest_in, purges_in}
+use Rattle.job_table.proofs.Lookups.{both}
+use Rattle.job_table.proofs.Steps.{eqb_is}
+use Rattle.job_table.proofs.Places.{find_map, find_at_place, find_nowhere, position_none, less_tail, map_length, get_map, take_one}
+use Rattle.job_table.proofs.Lefts.{left_restored, left_none, row_at_place}
+
+-- the first job that a test over the kept rows finds is the first that the state's test finds
+
+-- the kept row at a place is a job of the state
+pub slice_map : (rows : List Row) (k : ℕ) (d : Row) → k < length rows → slice_get (map row_of rows) k ≡ Some (row_of (get_or rows k d))
+slice_map [] k d l = absurd (omega arith)
+slice_map (x ∷ xs) zero d l = refl
+slice_map (x ∷ xs) (suc k) d l = slice_map xs k d (less_tail k x xs l)
+
+-- a test that agrees on each kept row
+abbrev pub Agrees : (Row → Bool) → (JobRow → Bool) → List Row → Type 0
+Agrees p q rows = (k : ℕ) (d : Row) → k < length rows → q (row_of (get_or rows k d)) ≡ p (get_or rows k d)
+
+pub found_job : (p : Row → Bool) (q : JobRow → Bool) (rows : List Row) (jobs : List JobRow) (i : ℕ) (got : Row) → map row_of rows ≡ jobs → Agrees p q rows →
+    Some i ≡ position p rows → got ≡ get_or rows i got → find q jobs ≡ Some (row_of got)
+found_job p q rows jobs i got e a f g =
+    let facts = position-Some p rows i got (sym f) in
+    ap (find q) (sym e) ∙ find_map row_of q rows
+    ∙ ap (option_map row_of) (find_at_place (λ x. q (row_of x)) rows i got facts.0 (λ k h. let near : k < length rows = omega (arith, h, facts.0) in a k got near ∙ facts.2 k h) (a i got facts.0 ∙ facts.1))
+    ∙ sym (ap (λ (r : Row). Some (row_of r)) g)
+
+pub no_job_found : (p : Row → Bool) (q : JobRow → Bool) (rows : List Row) (jobs : List JobRow) → map row_of rows ≡ jobs → Agrees p q rows →
+    None ≡ position p rows → find q jobs ≡ None
+no_job_found p q rows jobs e a f =
+    ap (find q) (sym e) ∙ find_map row_of q rows
+    ∙ ap (option_map row_of) (find_nowhere (λ x. q (row_of x)) rows (λ k d l. a k d l ∙ position_none p rows f k d l))
+
+-- what is left of a kept job
+
+pub left_kept : (s : State) (items : List Logged) (rows : List Row) → Keeps s → map row_of rows ≡ s.jobs → items ≡ s.items → (k : ℕ) (d : Row) → k < length rows →
+    left s (get_or rows k d).start ≡ left_in items (get_or rows k d)
+left_kept s items rows keeps e f k d l = go (is_some row.restored) refl
+  where
+    row : Row
+    row = get_or rows k d
+
+    found : job_row s.jobs row.start ≡ Some (row_of row)
+    found = row_at_place 0 s.len k (row_of row) s.jobs keeps.starts (ap (λ (j : List JobRow). slice_get j k) (sym e) ∙ slice_map rows k d l)
+
+    go : (b : Bool) → is_some row.restored ≡ b → left s row.start ≡ cond b (count_by (is_unhandled_of row.start) items) 0
+    go true h = left_restored s row.start (ap (λ (o : Option JobRow). is_restored_row o) found ∙ h) ∙ ap (count_by (is_unhandled_of row.start)) (sym f)
+    go false h = left_none s row.start (ap (λ (o : Option JobRow). is_restored_row o) found ∙ h)
+
+pub restoring_kept : (s : State) (items : List Logged) (rows : List Row) → Keeps s → map row_of rows ≡ s.jobs → items ≡ s.items →
+    Agrees (restoring_in items) (is_restoring s) rows
+restoring_kept s items rows keeps e f k d l =
+    ap (λ (n : ℕ). is_some (get_or rows k d).restored && nat_lt 0 n) (left_kept s items rows keeps e f k d l)
+
+-- none of the kept rows passes where each job fails it
+pub none_kept : (p : Row → Bool) (q : JobRow → Bool) (rows : List Row) → ((k : ℕ) (d : Row) → k < length rows → q (row_of (get_or rows k d)) ≡ not (p (get_or rows k d))) →
+    list_all q (map row_of rows) ≡ not (list_any p rows)
+none_kept p q [] a = refl
+none_kept p q (x ∷ xs) a =
+    ap (λ (b : Bool). b && list_all q (map row_of xs)) (a 0 x (omega arith))
+    ∙ ap (λ (b : Bool). not (p x) && b) (none_kept p q xs (λ k d l. a (suc k) d (omega arith))) ∙ split (p x) (list_any p xs)
+  where
+    split : (a b : Bool) → (not a && not b) ≡ not (a || b)
+    split true b = refl
+    split false b = refl
+
+pub oldest_kept : (s : State) (items : List Logged) (rows : List Row) → Keeps s → map row_of rows ≡ s.jobs → items ≡ s.items →
+    Agrees (is_oldest_in rows items) (is_oldest_restoring s) rows
+oldest_kept s items rows keeps e f k d l =
+    ap (λ (b : Bool). b && list_all test s.jobs) (restoring_kept s items rows keeps e f k d l)
+    ∙ ap (λ (b : Bool). restoring_in items (get_or rows k d) && b)
+    (ap (list_all test) (sym e) ∙ none_kept (is_elder items (get_or rows k d)) test rows
+    (λ n v near. ap (λ (b : Bool). not b || is_no_older (get_or rows k d).restored (get_or rows n v).restored) (restoring_kept s items rows keeps e f n v near)
+    ∙ turn (restoring_in items (get_or rows n v)) (is_no_older (get_or rows k d).restored (get_or rows n v).restored)))
+  where
+    turn : (a b : Bool) → (not a || b) ≡ not (a && not b)
+    turn true true = refl
+    turn true false = refl
+    turn false b = refl
+
+    test : JobRow → Bool
+    test other = not (is_restoring s other) || is_no_older (get_or rows k d).restored other.restored
+
+pub owns_kept : (s : State) (pairs : List (ℕ × ℕ)) (rows : List Row) → ((job : ℕ) → owned_among pairs job ≡ owned s job) → Agrees (owns_in pairs) (owns_some s) rows
+owns_kept s pairs rows e k d l = ap (nat_lt 0) (sym (e (get_or rows k d).start))
+
+pub purges_kept : (s : State) (pairs : List (ℕ × ℕ)) (items : List Logged) (moment window : ℕ) (rows : List Row) → Keeps s → map row_of rows ≡ s.jobs → items ≡ s.items →
+    ((job : ℕ) → owned_among pairs job ≡ owned s job) → window ≡ s.rules.window →
+    Agrees (purges_in pairs items window moment) (purges s moment) rows
+purges_kept s pairs items moment window rows keeps e f o w k d l =
+    ap (λ (n : ℕ). test n (left s (get_or rows k d).start) s.rules.window) (sym (o (get_or rows k d).start))
+    ∙ ap (λ (n : ℕ). test (owned_among pairs (get_or rows k d).start) n s.rules.window) (left_kept s items rows keeps e f k d l)
+    ∙ ap (λ (n : ℕ). test (owned_among pairs (get_or rows k d).start) (left_in items (get_or rows k d)) n) (sym w)
+  where
+    test : ℕ → ℕ → ℕ → Bool
+    test a b c = nat_eq a 0 && not (get_or rows k d).purged && nat_eq b 0 && nat_lt (last_erasure_or_zero (get_or rows k d).last + c) moment
+
+-- the greatest unhandled item of a restored job
+
+pub last_open : (s : State) (job i : ℕ) (xs : List Logged) → is_restored s.jobs job ≡ true →
+    last_place (is_open_of job s.jobs) i xs ≡ last_place (is_unhandled_of job) i xs
+last_open s job i [] r = refl
+last_open s job i (x ∷ xs) r =
+    ap (λ (o : Option ℕ). first_of_two o (cond (is_open_of job s.jobs x) (Some i) None)) (last_open s job (i + 1) xs r)
+    ∙ ap (λ (b : Bool). first_of_two (last_place (is_unhandled_of job) (i + 1) xs) (cond b (Some i) None))
+    (same (nat_eq (job_of x.item) job) (is_none x.handled) (is_restored s.jobs (job_of x.item)) (λ h. ap (is_restored s.jobs) (eqb_is (job_of x.item) job h) ∙ r))
+  where
+    same : (j h o : Bool) → (j ≡ true → o ≡ true) → (j && (h && o)) ≡ (j && h)
+    same false h o e = refl
+    same true false o e = refl
+    same true true o e = e refl
+
+-- the greatest place with one element more
+pub last_push : (p : Logged → Bool) (i : ℕ) (xs : List Logged) (y : Logged) → last_place p i (xs ++ y ∷ []) ≡ cond (p y) (Some (i + length xs)) (last_place p i xs)
+last_push p i [] y = let same : i ≡ i + 0 = omega arith in ap (λ (n : ℕ). cond (p y) (Some n) None) same
+last_push p i (x ∷ xs) y =
+    let same : (i + 1) + length xs ≡ i + length (x ∷ xs) = omega arith in
+    ap (λ (o : Option ℕ). first_of_two o (cond (p x) (Some i) None)) (last_push p (i + 1) xs y ∙ ap (λ (n : ℕ). cond (p y) (Some n) (last_place p (i + 1) xs)) same)
+    ∙ go (p y)
+  where
+    go : (b : Bool) → first_of_two (cond b (Some (i + length (x ∷ xs))) (last_place p (i + 1) xs)) (cond (p x) (Some i) None) ≡
+        cond b (Some (i + length (x ∷ xs))) (first_of_two (last_place p (i + 1) xs) (cond (p x) (Some i) None))
+    go true = refl
+    go false = refl
+
+pub last_more : (p : Logged → Bool) (kept items : List Kept) (now : ItemPart) (spare i : ℕ) (got : Kept) (last next : Option ℕ) → record { list = map logged_of kept; spare = spare } ≡ now →
+    items ≡ kept → i < length items → got ≡ get_or items i got → last ≡ last_place p 0 (take i now.list) →
+    next ≡ cond (p (logged_of got)) (Some i) last → next ≡ last_place p 0 (take (i + 1) now.list)
+last_more p kept items now spare i got last next v e l g h n =
+    let list : now.list ≡ map logged_of items = ap (λ (m : ItemPart). m.list) (sym v) ∙ ap (map logged_of) (sym e) in
+    let short : i < length (map logged_of items) = subst (λ (k : ℕ). i < k) (sym (map_length logged_of items)) l in
+    let item : get_or (map logged_of items) i (logged_of got) ≡ logged_of got = get_map logged_of items i got ∙ ap logged_of (sym g) in
+    let count : 0 + length (take i (map logged_of items)) ≡ i = let c = length_take (map logged_of items) i (omega arith) in omega (arith, c) in
+    n ∙ ap (λ (o : Option ℕ). cond (p (logged_of got)) (Some i) o) (h ∙ ap (λ (xs : List Logged). last_place p 0 (take i xs)) list)
+    ∙ sym (ap (λ (xs : List Logged). last_place p 0 (take (i + 1) xs)) list ∙ ap (last_place p 0) (take_one (map logged_of items) i (logged_of got) short ∙ ap (λ (x : Logged). take i (map logged_of items) ++ x ∷ []) item)
+    ∙ last_push p 0 (take i (map logged_of items)) (logged_of got) ∙ ap (λ (k : ℕ). cond (p (logged_of got)) (Some k) (last_place p 0 (take i (map logged_of items)))) count)
+
+-- the first steps, by what the kept rows say
+
+module _ (s : State) (t : Table) (rows : List Row) (h : IsTableOf s t) (e : map row_of rows ≡ t.jobs) where
+  kept : map row_of rows ≡ s.jobs
+  kept = e ∙ h.jobs
+
+  pub put_found : (i : ℕ) (got : Row) → Some i ≡ position (is_oldest_in rows t.items) rows → got ≡ get_or rows i got →
+      put_of got.start (last_place (is_unhandled_of got.start) 0 t.items) ≡ first_put s
+  put_found i got f g =
+      let facts = position-Some (is_oldest_in rows t.items) rows i got (sym f) in
+      let oldest : is_oldest_in rows t.items got ≡ true = ap (is_oldest_in rows t.items) g ∙ facts.1 in
+      let restoring = both (restoring_in t.items got) (not (list_any (is_elder t.items got) rows)) oldest in
+      let restored = both (is_some got.restored) (nat_lt 0 (left_in t.items got)) restoring.0 in
+      let place : slice_get s.jobs i ≡ Some (row_of got) = ap (λ (j : List JobRow). slice_get j i) (sym kept) ∙ slice_map rows i got facts.0 ∙ ap (λ (r : Row). Some (row_of r)) (sym g) in
+      let row : job_row s.jobs got.start ≡ Some (row_of got) = row_at_place 0 s.len i (row_of got) s.jobs h.keeps.starts place in
+      let is : is_restored s.jobs got.start ≡ true = ap (λ (o : Option JobRow). is_restored_row o) row ∙ restored.0 in
+      ap (λ (xs : List Logged). put_of got.start (last_place (is_unhandled_of got.start) 0 xs)) h.items
+      ∙ ap (put_of got.start) (sym (last_open s got.start 0 s.items is))
+      ∙ ap (put_of_job s) (sym (found_job (is_oldest_in rows t.items) (is_oldest_restoring s) rows s.jobs i got kept (oldest_kept s t.items rows h.keeps kept h.items) f g))
+
+  pub put_missing : None ≡ position (is_oldest_in rows t.items) rows → None ≡ first_put s
+  put_missing f =
+      ap (put_of_job s) (sym (no_job_found (is_oldest_in rows t.items) (is_oldest_restoring s) rows s.jobs kept (oldest_kept s t.items rows h.keeps kept h.items) f))
+
+  pub purge_found : (window moment i : ℕ) (got : Row) → window ≡ s.rules.window → Some i ≡ position (purges_in t.owners t.items window moment) rows → got ≡ get_or rows i got →
+      Some (Purge got.start) ≡ first_purge s moment
+  purge_found window moment i got w f g =
+      ap purge_of (sym (found_job (purges_in t.owners t.items window moment) (purges s moment) rows s.jobs i got kept (purges_kept s t.owners t.items moment window rows h.keeps kept h.items h.owned w) f g))
+
+  pub purge_missing : (window moment : ℕ) → window ≡ s.rules.window → None ≡ position (purges_in t.owners t.items window moment) rows → None ≡ first_purge s moment
+  purge_missing window moment w f =
+      ap purge_of (sym (no_job_found (purges_in t.owners t.items window moment) (purges s moment) rows s.jobs kept (purges_kept s t.owners t.items moment window rows h.keeps kept h.items h.owned w) f))
+
+  pub erasure_found : (stored : Graph) (i : ℕ) (got : Row) → stored ≡ s.graph → objects_rise s.graph.objects ≡ true → are_apart t.owners ≡ true →
+      Some i ≡ position (owns_in t.owners) rows → got ≡ get_or rows i got →
+      erasure_of_least got.start stored (least_among got.start t.owners) ≡ first_erasure s
+  erasure_found stored i got w r a f g =
+      ap (λ (v : Graph). erasure_of_least got.start v (least_among got.start t.owners)) w
+      ∙ ap (erasure_of_least got.start s.graph) (least_is_first got.start t.owners s.owners s.graph.objects a h.owners h.keeps.ids r)
+      ∙ go (find (is_pair_of got.start) s.owners)
+      ∙ ap (erasure_of_job s) (sym (found_job (owns_in t.owners) (owns_some s) rows s.jobs i got kept (owns_kept s t.owners rows h.owned) f g))
+    where
+      go : (o : Option (ℕ × Option ℕ)) → erasure_of_least got.start s.graph (first_id o) ≡ erasure_of_pair s got.start o
+      go None = refl
+      go (Some pair) = refl
+
+  pub erasure_missing : None ≡ position (owns_in t.owners) rows → None ≡ first_erasure s
+  erasure_missing f =
+      ap (erasure_of_job s) (sym (no_job_found (owns_in t.owners) (owns_some s) rows s.jobs kept (owns_kept s t.owners rows h.owned) f))
+
+-- the first edges of an object
+
+pub first_out : (job id : ℕ) (out entering : List EdgeRow) (row : EdgeRow) → Some row ≡ slice_get out 0 →
+    Cut job row.key.edge row.key.from row.key.to ≡ cut_or_erase job id out entering
+first_out job id [] entering row e = absurd (cc e)
+first_out job id (x ∷ xs) entering row e = let same : row ≡ x = cc e in ap (λ (r : EdgeRow). Cut job r.key.edge r.key.from r.key.to) same
+
+pub first_in : (job id : ℕ) (out entering : List EdgeRow) (row : EdgeRow) → None ≡ slice_get out 0 → Some row ≡ slice_get entering 0 →
+    Cut job row.key.edge row.key.from row.key.to ≡ cut_or_erase job id out entering
+first_in job id (x ∷ xs) entering row n e = absurd (cc n)
+first_in job id [] [] row n e = absurd (cc e)
+first_in job id [] (x ∷ xs) row n e = let same : row ≡ x = cc e in ap (λ (r : EdgeRow). Cut job r.key.edge r.key.from r.key.to) same
+
+pub no_edge_left : (job id : ℕ) (out entering : List EdgeRow) → None ≡ slice_get out 0 → None ≡ slice_get entering 0 →
+    Erase job id ≡ cut_or_erase job id out entering
+no_edge_left job id (x ∷ xs) entering n e = absurd (cc n)
+no_edge_left job id [] (x ∷ xs) n e = absurd (cc e)
+no_edge_left job id [] [] n e = refl

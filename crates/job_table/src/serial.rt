@@ -1,0 +1,219 @@
+ghost use Rattle.std.specs.Prelude.{◌≡◌, ◌<◌, ◌≤◌, ◌^◌, ◌&&◌, ◌||◌, not, None, Some, ℕ, nat_lt, ◌+◌, IsTrue};
+ghost use Rattle.std.specs.List.{position, list_any};
+ghost use Rattle.delf_model.specs.State.{State, first_of_two};
+ghost use Rattle.delf_model.specs.Order.{first_put as put_of_state, first_erasure as erasure_of_state, first_expiry as expiry_of_state, first_purge as purge_of_state, first_step, is_no_older, put_of as put_of_place, last_place, cut_or_erase as cut_or_erase_of};
+ghost use Rattle.job_table.specs.Table.{IsTableOf, IsGraphOf};
+ghost use Rattle.job_table.specs.Apart.{are_apart};
+ghost use Rattle.job_table.specs.Items.{is_unhandled_of};
+ghost use Rattle.delf_model.specs.Graph.{out_edges, in_edges};
+ghost use Rattle.delf_model.specs.declared.entry.What.{What};
+ghost use Rattle.job_table.specs.Serial.{owns_in, left_in as left_of_row, restoring_in, is_elder as is_elder_row, is_oldest_in, purges_in, least_among, erasure_of_least};
+
+use crate::items::Items;
+use crate::jobs::Row;
+use crate::owners::Owners;
+use crate::table::JobTable;
+use delf_model::{EdgeRow, GraphStore, Job, Moment, ObjectId, Rules, What};
+
+/// How many items of the job are neither put back nor listed, where it has a Restore.
+fn left(items: &Items, row: &Row) -> u32
+    ensures { result ≡ left_of_row items.now.list row.now }
+{
+    match row.restored {
+        Some(_) => items.unhandled(row.start),
+        None => 0,
+    }
+}
+
+fn is_restoring(items: &Items, row: &Row) -> bool
+    ensures { result ≡ restoring_in items.now.list row.now }
+{
+    row.restored.is_some() && left(items, row) > 0
+}
+
+fn is_younger(first: Option<u32>, other: Option<u32>) -> bool
+    ensures { result ≡ is_no_older first other }
+{
+    match first {
+        None => true,
+        Some(first) => match other {
+            None => false,
+            Some(other) => first <= other,
+        },
+    }
+}
+
+fn is_elder(items: &Items, row: &Row, other: &Row) -> bool
+    ensures { result ≡ is_elder_row items.now.list row.now other.now }
+{
+    is_restoring(items, other) && !is_younger(row.restored, other.restored)
+}
+
+fn has_elder(rows: &[Row], items: &Items, row: &Row) -> bool
+    ensures { result ≡ list_any (is_elder_row items.now.list row.now) rows.now }
+{
+    rows.iter().any(|other| is_elder(items, row, other))
+}
+
+fn is_oldest(rows: &[Row], items: &Items, row: &Row) -> bool
+    ensures { result ≡ is_oldest_in rows.now items.now.list row.now }
+{
+    is_restoring(items, row) && !has_elder(rows, items, row)
+}
+
+fn place_of_oldest(rows: &[Row], items: &Items) -> Option<usize>
+    ensures { result ≡ position (is_oldest_in rows.now items.now.list) rows.now }
+{
+    rows.iter().position(|row| is_oldest(rows, items, row))
+}
+
+fn place_of_owner(rows: &[Row], owners: &Owners) -> Option<usize>
+    ensures { result ≡ position (owns_in owners.now.list) rows.now }
+{
+    rows.iter().position(|row| owners.owned(row.start) > 0)
+}
+
+fn is_over(owners: &Owners, items: &Items, window: u32, moment: Moment, row: &Row) -> bool
+    ensures { result ≡ purges_in owners.now.list items.now.list window moment row.now }
+{
+    owners.owned(row.start) == 0
+        && !row.purged
+        && left(items, row) == 0
+        && is_past(row.last.unwrap_or(0), window, moment)
+}
+
+fn is_past(last: Moment, window: u32, moment: Moment) -> bool
+    ensures { result ≡ nat_lt (last + window) moment }
+{
+    moment > window as u64 && last < moment - window as u64
+}
+
+fn place_to_purge(
+    rows: &[Row],
+    owners: &Owners,
+    items: &Items,
+    window: u32,
+    moment: Moment,
+) -> Option<usize>
+    ensures { result ≡ position (purges_in owners.now.list items.now.list window moment) rows.now }
+{
+    rows.iter()
+        .position(|row| is_over(owners, items, window, moment, row))
+}
+
+/// The step that takes the first edge of the object, else the object itself.
+fn cut_or_erase<G: GraphStore>(graph: &G, job: Job, id: ObjectId) -> What
+    ensures { result ≡ cut_or_erase_of job id (out_edges (G.graph graph.now) id) (in_edges (G.graph graph.now) id) }
+{
+    match graph.out_at(id, 0) {
+        Some(row) => cut(job, &row),
+        None => match graph.in_at(id, 0) {
+            Some(row) => cut(job, &row),
+            None => What::Erase { job, id },
+        },
+    }
+}
+
+fn cut(job: Job, row: &EdgeRow) -> What
+    ensures { result ≡ What.Cut job row.now.key.edge row.now.key.from row.now.key.to }
+{
+    What::Cut {
+        job,
+        edge: row.key.edge,
+        from: row.key.from,
+        to: row.key.to,
+    }
+}
+
+impl JobTable {
+    /// The first legal step of the serial order at this moment, whatever steps are held; None where no step is legal.
+    /// Takes no memory.
+    pub fn first<G: GraphStore>(&self, graph: &G, rules: &Rules, moment: Moment) -> Option<What>
+        ensures { (s : State) → IsTableOf s self.now → IsGraphOf s (G.graph graph.now) (G.counts graph.now) rules.now → result ≡ first_step s moment }
+    {
+        match self.first_put() {
+            Some(step) => Some(step),
+            None => self.first_but_put(graph, rules, moment),
+        }
+    }
+
+    fn first_but_put<G: GraphStore>(&self, graph: &G, rules: &Rules, moment: Moment) -> Option<What>
+        ensures { (s : State) → IsTableOf s self.now → IsGraphOf s (G.graph graph.now) (G.counts graph.now) rules.now → result ≡ first_of_two (erasure_of_state s) (first_of_two (expiry_of_state s moment) (purge_of_state s moment)) }
+    {
+        match self.first_erasure(graph) {
+            Some(step) => Some(step),
+            None => match self.first_expiry(graph, moment) {
+                Some(step) => Some(step),
+                None => self.first_purge(rules.window(), moment),
+            },
+        }
+    }
+
+    fn first_put(&self) -> Option<What>
+        ensures { (s : State) → IsTableOf s self.now → result ≡ put_of_state s }
+    {
+        let rows = self.jobs.rows();
+        match place_of_oldest(rows, &self.items) {
+            Some(i) => self.put_of(rows[i].start),
+            None => None,
+        }
+    }
+
+    fn put_of(&self, job: Job) -> Option<What>
+        ensures { result ≡ put_of_place job (last_place (is_unhandled_of job) 0 self.now.items) }
+    {
+        match self.items.last_unhandled(job) {
+            Some(item) => Some(What::Put { job, item }),
+            None => None,
+        }
+    }
+
+    fn first_erasure<G: GraphStore>(&self, graph: &G) -> Option<What>
+        ensures { (s : State) → IsTableOf s self.now → G.graph graph.now ≡ s.graph → result ≡ erasure_of_state s }
+    {
+        let rows = self.jobs.rows();
+        match place_of_owner(rows, &self.owners) {
+            Some(i) => self.erasure_of(graph, rows[i].start),
+            None => None,
+        }
+    }
+
+    fn erasure_of<G: GraphStore>(&self, graph: &G, job: Job) -> Option<What>
+        ensures value { result ≡ erasure_of_least job (G.graph graph.now) (least_among job self.now.owners) }
+        ensures apart { IsTrue (are_apart self.now.owners) }
+    {
+        match self.owners.least(job) {
+            Some(id) => Some(cut_or_erase(graph, job, id)),
+            None => None,
+        }
+    }
+
+    fn first_purge(&self, window: u32, moment: Moment) -> Option<What>
+        ensures { (s : State) → IsTableOf s self.now → window ≡ s.rules.window → result ≡ purge_of_state s moment }
+    {
+        let rows = self.jobs.rows();
+        match place_to_purge(rows, &self.owners, &self.items, window, moment) {
+            Some(i) => Some(What::Purge { job: rows[i].start }),
+            None => None,
+        }
+    }
+
+    fn first_expiry<G: GraphStore>(&self, graph: &G, moment: Moment) -> Option<What>
+        ensures { (s : State) → IsTableOf s self.now → G.graph graph.now ≡ s.graph → result ≡ expiry_of_state s moment }
+    {
+        let mut after = None;
+        let mut low = 0;
+        'dues: loop {
+            match graph.next_due(moment, after) {
+                None => return None,
+                Some(id) => {
+                    if self.owner(id).is_none() {
+                        return Some(What::Expire { id });
+                    }
+                    after = Some(id);
+                    low = id.get();
+                }
+            }
+        }
+    }
+}
