@@ -1,7 +1,6 @@
 -- The state of a store of created objects, and what one create more makes of it.
-use Rattle.std.proofs.Common.{◌≡◌, ℕ, zero, suc, ◌+◌, ◌*◌, ◌≤◌, ◌<◌, Bool, true, false, cond, eqb, ltb, Result, Ok, Err, Option, Some, None, List, [], ◌∷◌, ◌++◌, length, get_or, map, refl, sym, ap, subst, ◌∙◌, arith}
+use Rattle.std.proofs.Common.{◌≡◌, ℕ, zero, suc, ◌+◌, ◌*◌, ◌≤◌, ◌<◌, Bool, true, false, cond, eqb, ltb, Ok, Option, Some, None, List, [], ◌∷◌, ◌++◌, length, get_or, map, refl, sym, ap, subst, ◌∙◌, arith}
 use Rattle.std.proofs.lemmas.Bool.Decides.{nat_tests}
-use Rattle.std.proofs.lemmas.Grind.{common_steps}
 use Rattle.std.proofs.lemmas.List.{length_push, map-append}
 use Rattle.std.proofs.lemmas.Option.{slice_get-get_or}
 use Rattle.std.proofs.lemmas.List.Sums.{sum_by-cons}
@@ -13,7 +12,6 @@ use Rattle.delf_model.specs.declared.rows.ObjectRow.{ObjectRow}
 use Rattle.delf_model.specs.declared.call.Refusal.{Refusal}
 use Rattle.delf_model.specs.declared.call.Refusal.TheVariants.{TooLong, NameTaken, Full}
 use Rattle.delf_model.specs.declared.entry.Tag.{Tag}
-use Rattle.delf_model.specs.declared.entry.What.{What}
 use Rattle.delf_model.specs.declared.entry.What.TheVariants.{Create}
 use Rattle.delf_model.specs.Graph.{Graph, has_id, object_at, put_object, stands}
 use Rattle.delf_model.specs.State.{State, Owners, due_of, step, owner, owner_in, owner_of_pair, owns_of, owned_row, new_object, first_of_two}

@@ -1,8 +1,8 @@
 -- Why bytes are no document, and the commands of a script line by line.
-use Rattle.std.proofs.Common.{◌≡◌, ℕ, zero, suc, ◌+◌, ◌≤◌, ◌<◌, Result, Ok, Err, Option, Some, None, List, [], ◌∷◌, ◌++◌, length, get_or, map, refl, sym, ap, subst, ◌∙◌, arith, append_assoc, append-nil}
+use Rattle.std.proofs.Common.{◌≡◌, ℕ, zero, suc, ◌≤◌, ◌<◌, Result, Ok, Err, Option, Some, None, List, [], ◌∷◌, ◌++◌, length, get_or, refl, sym, ap, subst, ◌∙◌, arith, append_assoc, append-nil}
 use Rattle.std.proofs.lemmas.List.{length-map}
 use Rattle.std.specs.Str.Lines.{lines}
-use Rattle.std.specs.List.{All, AllByRecursion}
+use Rattle.std.specs.List.{AllByRecursion}
 use Rattle.delf_model.specs.declared.schema.Schema.{Schema}
 use Rattle.delf_model.specs.declared.schema.ObjectType.{ObjectType}
 use Rattle.delf_model.specs.declared.schema.ObjectRule.{ObjectRule}
@@ -15,7 +15,7 @@ use Rattle.schema_lang.specs.Words.{line_of}
 use Rattle.schema_lang.specs.Grammar.{Part, Fault, part_of}
 use Rattle.script_runner.specs.declared.document.Command.{Command}
 use Rattle.script_runner.specs.declared.document.Document.{Document}
-use Rattle.script_runner.specs.Documents.{IsDocument, IsNoDocument, spells, commands_of, commands_of_line, both, before_rest}
+use Rattle.script_runner.specs.Documents.{IsDocument, IsNoDocument, spells, commands_of, commands_of_line, both}
 
 -- a schema that a text can spell is one that rules can be made of
 

@@ -1,12 +1,11 @@
 -- What a run leaves in the sink, and why it ended, by its status.
 use Rattle.std.specs.Prelude.{◌≡◌, ℕ, ◌<◌, Bool, IsTrue, Option, Some, None, List, [], ◌∷◌, ◌++◌, ◌⊎◌, length, take, slice_get, codes}
-use Rattle.delf_model.specs.RuleSet.{RuleSet}
 use Rattle.delf_model.specs.declared.schema.Schema.{Schema}
 use Rattle.script_runner.specs.declared.status.Status.{Status}
 use Rattle.script_runner.specs.declared.status.Status.TheVariants.{Done, Usage, BadDocument, ReadFault, WriteFault, OutOfMemory}
 use Rattle.script_runner.specs.declared.document.Command.{Command}
 use Rattle.script_runner.specs.declared.document.Document.{Document}
-use Rattle.script_runner.specs.Documents.{IsDocument, IsNoDocument, start_of}
+use Rattle.script_runner.specs.Documents.{IsDocument, IsNoDocument}
 use Rattle.script_runner.specs.Stores.{World}
 use Rattle.script_runner.specs.Serial.{first_world, world_after, text_of, lines_of}
 

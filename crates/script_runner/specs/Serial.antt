@@ -11,7 +11,7 @@ use Rattle.delf_model.specs.declared.call.Refusal.{Refusal}
 use Rattle.delf_model.specs.declared.entry.What.{What}
 use Rattle.delf_model.specs.declared.entry.What.TheVariants as what
 use Rattle.delf_model.specs.RuleSet.{RuleSet}
-use Rattle.delf_model.specs.State.{State, start, step, owner}
+use Rattle.delf_model.specs.State.{start, step, owner}
 use Rattle.delf_model.specs.Legal.{reply, moment_of, next_tag}
 use Rattle.delf_model.specs.Payloads.{brought, is_at, bytes_of_pair}
 use Rattle.script_runner.specs.Texts.{created_text, graph_text, object_text, edge_text, refusal_text}

@@ -1,7 +1,7 @@
-use Rattle.std.proofs.Common.{◌≡◌, ℕ, ◌+◌, ◌++◌, [], List, length, take, sym, ap, subst, refl, ◌∙◌, arith, append-nil}
+use Rattle.std.proofs.Common.{ℕ, ◌++◌, List, length, sym, ap, refl, ◌∙◌, arith, append-nil}
 use Rattle.delf_model.specs.RuleSet.{RuleSet}
 use Rattle.script_runner.specs.Stores.{World}
-use Rattle.script_runner.proofs.Scripts.{text_of-none, world_after-none, text_more, world_more, script_cut, rules_stay}
+use Rattle.script_runner.proofs.Scripts.{text_of-none, world_after-none, text_more, world_more, rules_stay}
 use Rattle.script_runner.proofs.run.run_commands.Goals as goal
 
 pub loop-command-init : goal.loop-command-init

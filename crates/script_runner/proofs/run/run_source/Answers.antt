@@ -1,4 +1,4 @@
-use Rattle.std.proofs.Common.{◌≡◌, ◌++◌, ◌<◌, ℕ, List, [], IsTrue, length, sym, subst, arith}
+use Rattle.std.proofs.Common.{◌≡◌, ◌++◌, ℕ, List, sym, subst, arith}
 use Rattle.script_runner.proofs.Sources.{source_text, source_cause}
 use Rattle.script_runner.proofs.run.run_source.Goals as goal
 

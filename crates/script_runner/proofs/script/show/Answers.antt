@@ -1,10 +1,10 @@
-use Rattle.std.proofs.Common.{◌≡◌, ◌+◌, ℕ, ◌<◌, List, None, length, get_or, sym, ap, subst, ◌∙◌, arith}
+use Rattle.std.proofs.Common.{◌≡◌, ℕ, ◌<◌, List, None, length, get_or, sym, ap, subst, ◌∙◌, arith}
 use Rattle.delf_model.specs.declared.rows.ObjectRow.{ObjectRow}
 use Rattle.delf_model.specs.declared.schema.ObjectType.{ObjectType}
 use Rattle.script_runner.specs.Texts.{graph_text, object_text}
 use Rattle.script_runner.specs.Serial.{given_at}
 use Rattle.script_runner.proofs.Rows.{kind_at}
-use Rattle.script_runner.proofs.Shows.{show_more, show_all}
+use Rattle.script_runner.proofs.Shows.{show_more}
 use Rattle.script_runner.proofs.script.show.Goals as goal
 
 pub loop-row-preserved : goal.loop-row-preserved
