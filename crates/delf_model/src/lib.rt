@@ -13,6 +13,7 @@ mod numbering;
 mod rows;
 mod rules;
 mod schema;
+mod script;
 mod spellable;
 #[cfg(test)]
 mod tests;
@@ -28,4 +29,8 @@ pub use name::{Name, NameFault, is_name_byte, is_name_text};
 pub use rows::{EdgeKey, EdgeRow, Item, ObjectRow};
 pub use rules::{Broken, JudgeFault, Rules, RulesFault};
 pub use schema::{EdgeRule, EdgeShape, EdgeType, ObjectRule, ObjectType, Schema};
+pub use script::{Command, Lane, LaneCommand, Script};
 pub use spellable::is_spellable;
+
+/// The greatest size of a payload in bytes.
+pub const LIMIT: usize = 512;
