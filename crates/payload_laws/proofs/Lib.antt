@@ -1,3 +1,4 @@
 pub mod Members
 pub mod Carriers
 pub mod Rows
+pub mod Items

@@ -298,11 +298,11 @@ pub data RowNow (s : State) (w : What) (source : Source) (p size : ℕ) : Type 0
   Back : (i : ℕ) (l : Logged) → PutsBack s w i l → source ≡ source_of_item l.item → p ≡ position_of l.item → size ≡ size_of l.item →
       ((q n : ℕ) → Holds s.graph source q n → ⊥) → RowNow s w source p size
 
-none_handled : (o : Option Handled) → is_none o ≡ true → o ≡ None
+pub none_handled : (o : Option Handled) → is_none o ≡ true → o ≡ None
 none_handled None none = refl
 none_handled (Some how) none = absurd (false≢true none)
 
-may_open : (s : State) (job i : ℕ) (may : MayPut s job i) → is_open s.jobs may.logged ≡ true
+pub may_open : (s : State) (job i : ℕ) (may : MayPut s job i) → is_open s.jobs may.logged ≡ true
 may_open s job i may = and_from (is_none may.logged.handled) (is_restored s.jobs (job_of may.logged.item)) may.waiting may.restored
 
 put_of_source : (it : Item) (source : Source) (p size : ℕ) → PutOf (put_of_item it) source p size → (source ≡ source_of_item it) × (p ≡ position_of it) × (size ≡ size_of it)
