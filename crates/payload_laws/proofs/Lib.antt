@@ -2,3 +2,4 @@ pub mod Members
 pub mod Carriers
 pub mod Rows
 pub mod Items
+pub mod Placed
