@@ -1,12 +1,12 @@
 -- The last carrier of a position, by the last item that holds it.
-use Rattle.std.proofs.Common.{◌≡◌, ℕ, zero, suc, ◌+◌, ◌≤◌, Bool, true, false, cond, eqb, List, [], ◌∷◌, Option, Some, None, refl, sym, ap, ◌∙◌, subst, arith, inl, inr, ◌⊎◌}
-use Rattle.std.proofs.lemmas.Bool.{eqb-true, eqb-false, eq-eqb, false≢true}
+use Rattle.std.proofs.Common.{◌≡◌, ℕ, zero, suc, ◌+◌, ◌≤◌, Bool, true, false, cond, eqb, List, [], ◌∷◌, Option, Some, None, refl, ap, ◌∙◌, arith, inl, inr, ◌⊎◌}
+use Rattle.std.proofs.lemmas.Bool.{eqb-true, eqb-false, false≢true}
 use Rattle.std.specs.Prelude.{slice_get, is_none}
 use Rattle.delf_model.specs.declared.call.Cause.{Cause}
 use Rattle.delf_model.specs.State.{State, Logged, Handled, position_of, first_of_two}
 use Rattle.delf_model.specs.Order.{last_place}
 use Rattle.delf_model.specs.Report.{was_put}
-use Rattle.delf_model.specs.Payloads.{Carrier, Journal, Vault, holds_position, carrier_of_item, handled_of, carrier_by, last_carrier}
+use Rattle.delf_model.specs.Payloads.{Journal, Vault, holds_position, carrier_of_item, handled_of, carrier_by, last_carrier}
 use Rattle.payload_laws.proofs.Members.{some_is}
 
 -- no item holds the position
@@ -59,7 +59,7 @@ last_case p k (x ∷ xs) =
           0,
           record { logged = x; there = refl; holds = eqb-true (position_of x.item) p is; last = λ j y at holds. at_first none.0 j y at holds },
           ap (λ (o : Option ℕ). first_of_two o (cond (eqb (position_of x.item) p) (Some k) None)) none.1 ∙
-          (ap (λ (b : Bool). cond b (Some k) None) is ∙ ap (λ (n : ℕ). Some n) (no_zero k)),
+              (ap (λ (b : Bool). cond b (Some k) None) is ∙ ap (λ (n : ℕ). Some n) (no_zero k)),
         )
     first_or_none false is none =
         inl (

@@ -1,31 +1,27 @@
 -- What an entry does to the items and to the jobs.
-use Rattle.std.proofs.Common.{◌≡◌, ℕ, zero, suc, ◌+◌, ◌≤◌, ◌<◌, Bool, true, false, cond, not, ◌&&◌, ◌||◌, eqb, List, [], ◌∷◌, ◌++◌, length, Option, Some, None, refl, sym, ap, ◌∙◌, subst, arith, inl, inr, ◌⊎◌}
-use Rattle.std.proofs.lemmas.Bool.{and_parts, and_from, or_cases, eqb-true, eq-eqb, false≢true, not-true, not_from_false, cases_Bool}
-use Rattle.std.proofs.lemmas.Option.{slice_get_within}
-use Rattle.std.specs.Prelude.{find, map, slice_get, is_some, is_none}
+use Rattle.std.proofs.Common.{◌≡◌, ℕ, zero, suc, ◌+◌, Bool, true, false, cond, not, ◌&&◌, ◌||◌, eqb, List, [], ◌∷◌, ◌++◌, length, Option, Some, None, refl, sym, ap, ◌∙◌, subst, arith, inl, inr, ◌⊎◌}
+use Rattle.std.proofs.lemmas.Bool.{and_parts, or_cases, eqb-true, eq-eqb, false≢true, cases_Bool}
+use Rattle.std.specs.Prelude.{find, slice_get}
 use Rattle.std.specs.Option.{option_map}
 use Rattle.delf_model.specs.declared.rows.ObjectRow.{ObjectRow}
-use Rattle.delf_model.specs.declared.rows.EdgeKey.{EdgeKey}
 use Rattle.delf_model.specs.declared.rows.EdgeRow.{EdgeRow}
-use Rattle.delf_model.specs.declared.rows.Item.{Item}
-use Rattle.delf_model.specs.declared.rows.Item.TheVariants as item
 use Rattle.delf_model.specs.declared.ids.JobName.{JobName}
 use Rattle.delf_model.specs.declared.ids.JobName.TheVariants.{Named, Expiry}
 use Rattle.delf_model.specs.declared.call.Refusal.TheVariants.{WindowOver}
 use Rattle.delf_model.specs.declared.entry.What.{What}
-use Rattle.delf_model.specs.declared.entry.What.TheVariants.{Create, Update, Link, Unlink, Delete, Restore, Expire, Cut, Erase, Put, Purge}
-use Rattle.delf_model.specs.Graph.{Graph, has_id, has_key, object_at, edge_at, edge_stands, is_touched}
-use Rattle.delf_model.specs.State.{State, Logged, Handled, JobRow, items_after, jobs_after, key_of, edge_item, object_item, unhandled, handled_at, outcome, judged, position_of, size_of, job_of, job_row, starts_at, is_restored, is_open, is_open_of, left, owned, birth_of, is_owned_by, unlink_start, started_job, new_job, restored_at, purged_if, erased_at, first_of_two, owner}
+use Rattle.delf_model.specs.declared.entry.What.TheVariants.{Unlink, Delete, Restore, Expire, Cut, Erase, Put, Purge}
+use Rattle.delf_model.specs.Graph.{has_id, has_key, object_at, edge_at, edge_stands, is_touched}
+use Rattle.delf_model.specs.State.{State, Logged, Handled, JobRow, items_after, jobs_after, key_of, edge_item, object_item, handled_at, outcome, judged, position_of, size_of, job_of, job_row, starts_at, is_restored, is_open, left, owned, is_owned_by, unlink_start, started_job, new_job, restored_at, purged_if, erased_at, first_of_two}
 use Rattle.delf_model.specs.Legal.{is_allowed, refusals, may_purge, is_named_so, window_over, window_end, window_passed}
 use Rattle.delf_model.specs.Payloads.{is_purged, is_purged_row, position_of_edge, position_of_object}
 use Rattle.delf_model.proofs.Lines.{none_of}
 use Rattle.delf_model.proofs.Leaves.{owner_is}
 use Rattle.delf_model.proofs.Owners.{found_id, found_key}
-use Rattle.delf_model.proofs.Jobs.{Idle, is_restore_of, restored_same, job_row-started, job_row-restored, job_row-purged, job_row-erased}
+use Rattle.delf_model.proofs.Jobs.{Idle, is_restore_of, job_row-started, job_row-restored, job_row-purged, job_row-erased}
 use Rattle.delf_model.proofs.Places.{MayPut, may_put_of}
 use Rattle.payload_laws.specs.Holders.{position_taken}
-use Rattle.payload_laws.proofs.Members.{In, some_is, found_in}
-use Rattle.payload_laws.proofs.Rows.{Source, OfNone, OfObject, OfEdge, OfPut, gone_of, source_of_item, Holds, ByObject, ByEdge, none_handled, may_open}
+use Rattle.payload_laws.proofs.Members.{some_is, found_in}
+use Rattle.payload_laws.proofs.Rows.{OfObject, OfEdge, gone_of, source_of_item, Holds, ByObject, ByEdge, none_handled, may_open}
 
 -- places in a longer list, and in one with an item handled
 
@@ -190,9 +186,9 @@ item_stays s moment (Put job k) line i l at = by_place (eqb i k) refl
         inr (
           subst (λ (n : ℕ). HandlesNow s (Put job k) n l) (sym same) (subst (λ (x : Logged). HandlesNow s (Put job k) k x) one (handles_now s job k may)),
           ap (λ (n : ℕ). slice_get (items_after s (Put job k)) n) same ∙
-          (handled_now s.items k (outcome s (slice_get s.items k)) may.logged may.at ∙
-          (ap (λ (h : Handled). Some (with_how may.logged h)) (outcome_is s (slice_get s.items k) may.logged may.at) ∙
-          ap (λ (x : Logged). Some (with_how x (put_now s x))) one)),
+              (handled_now s.items k (outcome s (slice_get s.items k)) may.logged may.at ∙
+              (ap (λ (h : Handled). Some (with_how may.logged h)) (outcome_is s (slice_get s.items k) may.logged may.at) ∙
+              ap (λ (x : Logged). Some (with_how x (put_now s x))) one)),
         )
 item_stays s moment what line i l at = inl at
 
@@ -275,13 +271,12 @@ purge_row s moment job None at may = absurd (false≢true may)
 purge_row s moment job (Some row) at may =
     let start : row.start ≡ job = found_start s.jobs job row at in
     let front = and_parts (eqb (owned s row.start) 0 && not row.purged && eqb (left s row.start) 0) (window_passed s moment row) may in
-    let none = and_parts (eqb (owned s row.start) 0 && not row.purged) (eqb (left s row.start) 0) front.0 in
-    (
+    let none = and_parts (eqb (owned s row.start) 0 && not row.purged) (eqb (left s row.start) 0) front.0 in (
       subst (λ (n : ℕ). left s n ≡ 0) start (eqb-true (left s row.start) 0 none.1),
       ap (λ (b : Bool). is_purged_row (Some (cond b (record row { purged = true }) row))) (eq-eqb row.start job start),
     )
 
-purge_now : (s : State) (moment : ℕ) (w : What) (job : ℕ) → is_allowed s moment w ≡ true → is_purge_of job w ≡ true → PurgesNow s moment w job
+pub purge_now : (s : State) (moment : ℕ) (w : What) (job : ℕ) → is_allowed s moment w ≡ true → is_purge_of job w ≡ true → PurgesNow s moment w job
 purge_now s moment (Purge which) job line is =
     let same : which ≡ job = eqb-true which job is in
     let parts = purge_row s moment which (job_row s.jobs which) refl line in

@@ -3,3 +3,4 @@ pub mod Carriers
 pub mod Rows
 pub mod Items
 pub mod Placed
+pub mod Moves

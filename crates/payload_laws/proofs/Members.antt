@@ -1,12 +1,12 @@
 -- Elements of a list, and what a change of the list keeps of them.
-use Rattle.std.proofs.Common.{◌≡◌, ℕ, zero, suc, ◌+◌, Bool, true, false, cond, not, ◌||◌, eqb, ltb, List, [], ◌∷◌, ◌++◌, Option, Some, None, refl, sym, ap, ◌∙◌, subst, inl, inr, ◌⊎◌}
-use Rattle.std.proofs.lemmas.Bool.{false≢true, eqb-true, eq-eqb, or_left, or_right}
+use Rattle.std.proofs.Common.{◌≡◌, ℕ, zero, suc, Bool, true, false, cond, ◌||◌, eqb, ltb, List, [], ◌∷◌, Option, Some, None, refl, sym, ap, ◌∙◌, subst, inl, inr, ◌⊎◌}
+use Rattle.std.proofs.lemmas.Bool.{false≢true, eqb-true, or_left, or_right}
 use Rattle.std.specs.Prelude.{find, filter, map, slice_get}
 use Rattle.std.specs.List.{list_any}
 use Rattle.delf_model.specs.declared.rows.ObjectRow.{ObjectRow}
 use Rattle.delf_model.specs.declared.rows.EdgeRow.{EdgeRow}
-use Rattle.delf_model.specs.Graph.{has_id, has_key, key_before, same_key, put_object, put_edge}
-use Rattle.delf_model.proofs.Graphs.{same_key_is, same_key_refl}
+use Rattle.delf_model.specs.Graph.{key_before, same_key, put_object, put_edge}
+use Rattle.delf_model.proofs.Graphs.{same_key_is}
 
 abbrev pub In : {A : Type 0} → List A → A → Type 0
 In [] x = ⊥

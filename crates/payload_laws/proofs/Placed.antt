@@ -1,17 +1,14 @@
 -- Where each payload is, in every state after a legal history.
-use Rattle.std.proofs.Common.{◌≡◌, ℕ, zero, suc, ◌+◌, ◌≤◌, ◌<◌, Bool, true, false, cond, not, ◌&&◌, ◌||◌, eqb, ltb, List, [], ◌∷◌, ◌++◌, length, take, Option, Some, None, refl, sym, ap, ◌∙◌, subst, arith, inl, inr, ◌⊎◌}
-use Rattle.std.proofs.lemmas.Bool.{and_parts, and_from, or_cases, eqb-true, eq-eqb, false≢true, not-true, not_from_false, cases_Bool, lt-ltb, le-ltb, true_from_ne_false, false_from_ne_true}
+use Rattle.std.proofs.Common.{◌≡◌, ℕ, zero, suc, ◌+◌, ◌≤◌, ◌<◌, Bool, true, false, cond, eqb, ltb, List, [], ◌∷◌, length, take, Option, Some, None, refl, sym, ap, ◌∙◌, subst, arith, inl, inr}
+use Rattle.std.proofs.lemmas.Bool.{and_parts, and_from, eq-eqb, false≢true, cases_Bool, lt-ltb, le-ltb, true_from_ne_false}
 use Rattle.std.proofs.lemmas.Option.{slice_get_within}
 use Rattle.std.proofs.lemmas.List.Sums.{sum_by-cons}
-use Rattle.std.specs.Prelude.{slice_get, is_some, is_none, count_by}
-use Rattle.delf_model.specs.declared.rows.Item.{Item}
+use Rattle.std.specs.Prelude.{slice_get, is_none, count_by}
 use Rattle.delf_model.specs.declared.call.Cause.{Cause}
 use Rattle.delf_model.specs.declared.entry.Entry.{Entry}
-use Rattle.delf_model.specs.declared.entry.What.{What}
-use Rattle.delf_model.specs.declared.entry.What.TheVariants.{Create, Update, Link, Unlink, Delete, Restore, Expire, Cut, Erase, Put, Purge}
+use Rattle.delf_model.specs.declared.entry.What.TheVariants.{Put}
 use Rattle.delf_model.specs.RuleSet.{RuleSet}
-use Rattle.delf_model.specs.Graph.{Graph}
-use Rattle.delf_model.specs.State.{State, Logged, Handled, JobRow, start, step, run, after, graph_after, items_after, jobs_after, judged, position_of, size_of, job_of, is_restored, is_open, is_open_of, left}
+use Rattle.delf_model.specs.State.{State, Logged, Handled, start, step, run, after, judged, position_of, size_of, job_of, is_restored, is_open, is_open_of, left}
 use Rattle.delf_model.specs.Legal.{is_legal, is_legal_from, is_allowed, Legal}
 use Rattle.delf_model.specs.Report.{was_put}
 use Rattle.delf_model.specs.Payloads.{is_purged}
@@ -19,9 +16,9 @@ use Rattle.delf_model.proofs.Lines.{allowed_of}
 use Rattle.delf_model.proofs.Jobs.{Idle, is_restore_of, restored_same}
 use Rattle.delf_model.proofs.Good.{Good, good_start, good_step}
 use Rattle.payload_laws.specs.Holders.{record_size, put_size, brings}
-use Rattle.payload_laws.proofs.Members.{In, some_is}
-use Rattle.payload_laws.proofs.Rows.{Source, OfNone, OfObject, OfEdge, OfPut, source_of, gone_of, source_of_item, Holds, ByObject, ByEdge, not_none, item_not_none, RowNow, Old, New, Back, PutsBack, row_now, row_goes}
-use Rattle.payload_laws.proofs.Items.{ItemNow, Old as Was, Logs, Handles, LogsNow, HandlesNow, with_how, put_now, item_now, item_stays, PurgesNow, purged_now, restore_unpurged}
+use Rattle.payload_laws.proofs.Members.{some_is}
+use Rattle.payload_laws.proofs.Rows.{Source, OfNone, OfPut, source_of, gone_of, source_of_item, Holds, ByObject, ByEdge, item_not_none, RowNow, Old, New, Back, PutsBack, row_now}
+use Rattle.payload_laws.proofs.Items.{ItemNow, Old as Was, Logs, Handles, put_now, item_now, PurgesNow, purged_now, restore_unpurged}
 
 -- the entry at this position, which is below the length, serves this source with a payload of this size
 pub record IsFrom (sources : ℕ → Source) (sizes : ℕ → ℕ) (len : ℕ) (source : Source) (p size : ℕ) : Type 0 where

@@ -1,7 +1,7 @@
 -- What an entry does to the rows of the graph and to the items.
-use Rattle.std.proofs.Common.{◌≡◌, ℕ, zero, suc, ◌+◌, ◌<◌, Bool, true, false, cond, not, ◌&&◌, ◌||◌, eqb, List, [], ◌∷◌, ◌++◌, length, Option, Some, None, refl, sym, ap, ◌∙◌, subst, arith, inl, inr, ◌⊎◌}
-use Rattle.std.proofs.lemmas.Bool.{and_parts, and_from, or_cases, eqb-true, eq-eqb, false≢true, not-true, not_from_false, cases_Bool}
-use Rattle.std.specs.Prelude.{find, filter, map, slice_get, is_some, is_none}
+use Rattle.std.proofs.Common.{◌≡◌, ℕ, Bool, true, false, cond, eqb, Option, Some, None, refl, sym, ap, ◌∙◌, subst, inl, inr, ◌⊎◌}
+use Rattle.std.proofs.lemmas.Bool.{and_from, eqb-true, eq-eqb, false≢true, not-true, not_from_false}
+use Rattle.std.specs.Prelude.{map, slice_get, is_none}
 use Rattle.delf_model.specs.declared.rows.ObjectRow.{ObjectRow}
 use Rattle.delf_model.specs.declared.rows.EdgeKey.{EdgeKey}
 use Rattle.delf_model.specs.declared.rows.EdgeRow.{EdgeRow}
@@ -10,16 +10,14 @@ use Rattle.delf_model.specs.declared.rows.Item.TheVariants as item
 use Rattle.delf_model.specs.declared.call.Cause.{Cause}
 use Rattle.delf_model.specs.declared.entry.What.{What}
 use Rattle.delf_model.specs.declared.entry.What.TheVariants.{Create, Update, Link, Unlink, Delete, Restore, Expire, Cut, Erase, Put, Purge}
-use Rattle.delf_model.specs.Graph.{Graph, Change, Same, PutsObject, TakesObject, RewritesObject, PutsEdge, TakesEdge, changed, has_id, has_key, same_key, is_other_object, is_other_edge, rewritten, object_at, edge_at, edge_stands, is_touched}
-use Rattle.delf_model.specs.State.{State, Logged, Handled, graph_after, change_of, items_after, key_of, edge_item, object_item, unhandled, handled_at, outcome, judged, taken, end_cause, key_taken, first_of_two, put_change, put_unless, put_of_item, new_object, new_edge, position_of, size_of, job_of, is_restored, is_open, birth_of, is_owned_by}
+use Rattle.delf_model.specs.Graph.{Graph, Change, Same, PutsObject, TakesObject, RewritesObject, PutsEdge, TakesEdge, changed, has_id, has_key, same_key, is_other_object, is_other_edge, rewritten, object_at, edge_at}
+use Rattle.delf_model.specs.State.{State, Logged, Handled, graph_after, change_of, key_of, judged, taken, end_cause, key_taken, first_of_two, put_change, put_unless, put_of_item, position_of, size_of, job_of, is_restored, is_open}
 use Rattle.delf_model.specs.Legal.{is_allowed, refusals}
 use Rattle.delf_model.proofs.Graphs.{same_key_is, same_key_refl}
 use Rattle.delf_model.proofs.Lines.{none_of, name_free, key_free}
-use Rattle.delf_model.proofs.Leaves.{owner_is}
-use Rattle.delf_model.proofs.Jobs.{Idle, is_restore_of}
 use Rattle.delf_model.proofs.Places.{MayPut, may_put_of}
-use Rattle.payload_laws.specs.Holders.{record_size, put_size, position_taken, brings}
-use Rattle.payload_laws.proofs.Members.{In, some_is, found_in, none_found, in_filter, in_kept, in_map, in_mapped, in_put_object, put_object_there, put_object_keeps, in_put_edge, put_edge_there, put_edge_keeps}
+use Rattle.payload_laws.specs.Holders.{record_size, brings}
+use Rattle.payload_laws.proofs.Members.{In, none_found, in_filter, in_kept, in_map, in_mapped, in_put_object, put_object_keeps, in_put_edge, put_edge_keeps}
 
 -- what a payload belongs to, and what the entry at a position serves
 pub data Source : Type 0 where

@@ -1,5 +1,5 @@
 -- Who holds a payload, and how one entry moves it from one record to another.
-use Rattle.std.specs.Prelude.{◌≡◌, ◌⊎◌, ℕ, ◌+◌, ◌<◌, Bool, true, false, cond, ◌&&◌, nat_eq, not, List, [], ◌∷◌, ◌++◌, Option, Some, None, length, slice_get, take, is_none, Contains}
+use Rattle.std.specs.Prelude.{◌≡◌, ◌⊎◌, ℕ, ◌+◌, ◌<◌, Bool, true, false, cond, ◌&&◌, nat_eq, not, List, [], ◌∷◌, Option, Some, None, length, slice_get, take, is_none, Contains}
 use Rattle.delf_model.specs.declared.rows.ObjectRow.{ObjectRow}
 use Rattle.delf_model.specs.declared.rows.EdgeKey.{EdgeKey}
 use Rattle.delf_model.specs.declared.rows.EdgeRow.{EdgeRow}
@@ -7,9 +7,9 @@ use Rattle.delf_model.specs.declared.entry.Entry.{Entry}
 use Rattle.delf_model.specs.declared.entry.What.{What}
 use Rattle.delf_model.specs.declared.entry.What.TheVariants.{Create, Update, Link, Unlink, Delete, Restore, Expire, Cut, Erase, Put, Purge}
 use Rattle.delf_model.specs.RuleSet.{RuleSet}
-use Rattle.delf_model.specs.Graph.{Graph, object_at, edge_at}
+use Rattle.delf_model.specs.Graph.{object_at, edge_at}
 use Rattle.delf_model.specs.State.{State, Logged, after, step, job_of, position_of, size_of, judged, key_of}
-use Rattle.delf_model.specs.Legal.{Legal, is_legal}
+use Rattle.delf_model.specs.Legal.{is_legal}
 use Rattle.delf_model.specs.Report.{was_put}
 use Rattle.delf_model.specs.Payloads.{is_needed, last_carrier, Carrier, Journal, Vault, position_of_object, position_of_edge}
 
