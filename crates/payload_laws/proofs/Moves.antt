@@ -165,6 +165,14 @@ module _ (sources : ℕ → Source) (sizes : ℕ → ℕ) (s : State) (placed : 
         let one = placed.rows (OfObject x.id) x.at x.size (object_holds a x at) in
         let two = placed.rows (OfObject y.id) y.at y.size (object_holds b y at') in
         sym (found_id s.graph.objects a x at) ∙ (object_is (sym one.source_is ∙ (ap sources same ∙ two.source_is)) ∙ found_id s.graph.objects b y at');
+    edges_apart = λ a b x y at at' same.
+        let one = placed.rows (OfEdge x.key) x.birth x.size (edge_holds a x at) in
+        let two = placed.rows (OfEdge y.key) y.birth y.size (edge_holds b y at') in
+        sym (found_key s.graph.edges a x at) ∙ (edge_is (sym one.source_is ∙ (ap sources same ∙ two.source_is)) ∙ found_key s.graph.edges b y at');
+    kinds_apart = λ id key x y at at' same.
+        let one = placed.rows (OfObject x.id) x.at x.size (object_holds id x at) in
+        let two = placed.rows (OfEdge y.key) y.birth y.size (edge_holds key y at') in
+        let is : OfObject x.id ≡ OfEdge y.key = sym one.source_is ∙ (ap sources same ∙ two.source_is) in cc is;
   }
     where
       object_holds : (id : ℕ) (row : ObjectRow) → object_at s.graph id ≡ Some row → Holds s.graph (OfObject row.id) row.at row.size

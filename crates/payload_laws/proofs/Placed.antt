@@ -137,19 +137,18 @@ module _ (sources : ℕ → Source) (sizes : ℕ → ℕ) (s : State) (e : Entry
           moved refl (sym (ap (λ (h : Handled). h.put) how_is)) (ap (λ (y : Logged). size_of y.item) is)
           (record { below = here_below; source_is = source_here ∙ ap source_of now.puts; size_is = size_here ∙ sized })
 
-  -- what an item was before the entry
   unput_step : (i : ℕ) (l : Logged) → slice_get (step s e).items i ≡ Some l → was_put l.handled ≡ false →
       (j : ℕ) (y : Logged) → slice_get (step s e).items j ≡ Some y → position_of y.item ≡ position_of l.item → j ≤ i
   unput_step i l at waits j y there same = by_items (item_of i l at) (item_of j y there)
     where
       -- an old item that was not put back is after each old one that holds its position, and none is logged that holds it
       over : (x : Logged) → slice_get s.items i ≡ Some x → was_put x.handled ≡ false → position_of x.item ≡ position_of l.item → ItemNow s e.what j y → j ≤ i
-      over x old idle_still holds (Was old' other) = placed.unput_last i x old idle_still j y old' (same ∙ sym holds)
-      over x old idle_still holds (Logs logs) =
-          absurd (false≢true (sym idle_still ∙
+      over x old unput_still holds (Was old' other) = placed.unput_last i x old unput_still j y old' (same ∙ sym holds)
+      over x old unput_still holds (Logs logs) =
+          absurd (false≢true (sym unput_still ∙
           placed.rows_put (source_of_item y.item) (position_of y.item) (size_of y.item) logs.stood i x old (holds ∙ sym same)))
-      over x old idle_still holds (Handles z now is) =
-          placed.unput_last i x old idle_still j z now.there (ap (λ (k : Logged). position_of k.item) (sym is) ∙ (same ∙ sym holds))
+      over x old unput_still holds (Handles z now is) =
+          placed.unput_last i x old unput_still j z now.there (ap (λ (k : Logged). position_of k.item) (sym is) ∙ (same ∙ sym holds))
 
       within : (x : Logged) → slice_get s.items j ≡ Some x → i ≡ length s.items → j ≤ i
       within x old last = let lt : j < length s.items = slice_get_within s.items j x old in omega arith

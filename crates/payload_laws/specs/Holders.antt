@@ -109,6 +109,8 @@ pub record PositionsHeld (s : State) : Type 0 where
       last_carrier s (position_of logged.item) ≡ Vault i
   -- two rows of the graph hold two positions
   pub apart : (a b : ℕ) (x y : ObjectRow) → object_at s.graph a ≡ Some x → object_at s.graph b ≡ Some y → x.at ≡ y.at → a ≡ b
+  pub edges_apart : (a b : EdgeKey) (x y : EdgeRow) → edge_at s.graph a ≡ Some x → edge_at s.graph b ≡ Some y → x.birth ≡ y.birth → a ≡ b
+  pub kinds_apart : (id : ℕ) (key : EdgeKey) (x : ObjectRow) (y : EdgeRow) → object_at s.graph id ≡ Some x → edge_at s.graph key ≡ Some y → x.at ≡ y.birth → ⊥
 
 -- the record at this place has a payload of this size
 abbrev pub HasSize : RuleSet → List Entry → ℕ → ℕ → Type 0
