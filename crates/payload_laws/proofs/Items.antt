@@ -1,6 +1,6 @@
 -- What an entry does to the items and to the jobs.
 use Rattle.std.proofs.Common.{◌≡◌, ℕ, zero, suc, ◌+◌, Bool, true, false, cond, not, ◌&&◌, ◌||◌, eqb, List, [], ◌∷◌, ◌++◌, length, Option, Some, None, refl, sym, ap, ◌∙◌, subst, arith, inl, inr, ◌⊎◌}
-use Rattle.std.proofs.lemmas.Bool.{and_parts, or_cases, eqb-true, eq-eqb, false≢true, cases_Bool}
+use Rattle.std.proofs.lemmas.Bool.{and_parts, or_cases, eqb-true, eq-eqb, false≢true, cases_Bool, not-true}
 use Rattle.std.specs.Prelude.{find, slice_get}
 use Rattle.std.specs.Option.{option_map}
 use Rattle.delf_model.specs.declared.rows.ObjectRow.{ObjectRow}
@@ -264,15 +264,17 @@ purged_same s moment what job other = refl
 pub record PurgesNow (s : State) (moment : ℕ) (w : What) (job : ℕ) : Type 0 where
   pub purges : w ≡ Purge job
   pub none_left : left s job ≡ 0
+  pub unpurged : is_purged s.jobs job ≡ false
   pub purged : is_purged (jobs_after s moment w) job ≡ true
 
-purge_row : (s : State) (moment job : ℕ) (o : Option JobRow) → job_row s.jobs job ≡ o → may_purge s moment o ≡ true → (left s job ≡ 0) × (is_purged_row (option_map (purged_if job) o) ≡ true)
+purge_row : (s : State) (moment job : ℕ) (o : Option JobRow) → job_row s.jobs job ≡ o → may_purge s moment o ≡ true → (left s job ≡ 0) × (is_purged_row o ≡ false) × (is_purged_row (option_map (purged_if job) o) ≡ true)
 purge_row s moment job None at may = absurd (false≢true may)
 purge_row s moment job (Some row) at may =
     let start : row.start ≡ job = found_start s.jobs job row at in
     let front = and_parts (eqb (owned s row.start) 0 && not row.purged && eqb (left s row.start) 0) (window_passed s moment row) may in
     let none = and_parts (eqb (owned s row.start) 0 && not row.purged) (eqb (left s row.start) 0) front.0 in (
       subst (λ (n : ℕ). left s n ≡ 0) start (eqb-true (left s row.start) 0 none.1),
+      not-true row.purged (and_parts (eqb (owned s row.start) 0) (not row.purged) none.0).1,
       ap (λ (b : Bool). is_purged_row (Some (cond b (record row { purged = true }) row))) (eq-eqb row.start job start),
     )
 
@@ -283,7 +285,8 @@ purge_now s moment (Purge which) job line is =
     subst (λ (n : ℕ). PurgesNow s moment (Purge which) n) same (record {
       purges = refl;
       none_left = parts.0;
-      purged = ap is_purged_row (job_row-purged s.jobs which which) ∙ parts.1;
+      unpurged = parts.1;
+      purged = ap is_purged_row (job_row-purged s.jobs which which) ∙ parts.2;
     })
 purge_now s moment what job line is = absurd (false≢true is)
 

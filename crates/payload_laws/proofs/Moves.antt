@@ -503,6 +503,32 @@ module _ (sources : ℕ → Source) (sizes : ℕ → ℕ) (s : State) (e : Entry
   dead_by carrier (PutsItem job i l puts there free is) (q, needed, same) = dead_put job i l puts there free q (needed_by (step s e) q needed) (same ∙ sym is)
   dead_by carrier (Purges job i l purges there of_job waits is) (q, needed, same) = dead_purge job i l purges there of_job q (needed_by (step s e) q needed) (same ∙ sym is)
 
+  -- an item that an entry puts is an unhandled one
+  put_waits : (job i : ℕ) (l : Logged) → e.what ≡ Put job i → slice_get s.items i ≡ Some l → HandlesNow s e.what i l
+  put_waits job i l puts there = elim (item_stays s e.moment e.what line i l there) [ inl still ↦ by_item (item_of i l still) | inr handled ↦ handled.0 ]
+    where
+      by_item : ItemNow s e.what i l → HandlesNow s e.what i l
+      by_item (Was old other) = absurd (other job puts)
+      by_item (Logs logs) =
+          absurd (not_none s.graph (source_of_item l.item) (position_of l.item) (size_of l.item) logs.stood (ap gone_of (sym puts) ∙ logs.gone))
+      by_item (Handles x handles is) = subst (λ (y : Logged). HandlesNow s e.what i y) (some_is (sym handles.there ∙ there)) handles
+
+  live_by : (carrier : Carrier) → Scrubs s e.what carrier → IsLive s carrier
+  live_by carrier (Gone source p size held gone is) = (p, row_needed s source p size held, is)
+  live_by carrier (PutsItem job i l puts there free is) =
+      let handles = put_waits job i l puts there in
+      let waits : was_put l.handled ≡ false = ap was_put handles.waits in (
+        position_of l.item,
+        item_needed s (position_of l.item) i l there refl (before.unpurged i l there handles.opened) waits,
+        unput_carrier sources sizes s before i l there waits ∙ is,
+      )
+  live_by carrier (Purges job i l purges there of_job waits is) =
+      let now_purged = purge_now s e.moment e.what job line (ap (is_purge_of job) purges ∙ eq-eqb job job refl) in (
+        position_of l.item,
+        item_needed s (position_of l.item) i l there refl (ap (is_purged s.jobs) of_job ∙ now_purged.unpurged) waits,
+        unput_carrier sources sizes s before i l there waits ∙ is,
+      )
+
   -- what was served is served by the same record, or this record is scrubbed
   all_by : (carrier : Carrier) (p : ℕ) → NeededBy s p → last_carrier s p ≡ carrier → IsLive (step s e) carrier ⊎ In (scrubbed_by s e.what) carrier
   all_by carrier p (ByRow source size held) is =
@@ -557,6 +583,7 @@ module _ (sources : ℕ → Source) (sizes : ℕ → ℕ) (s : State) (e : Entry
   pub payloads_move : PayloadsMove s e
   payloads_move = record {
     carried = λ p needed. carried_by p (needed_by (step s e) p needed);
+    was_live = λ carrier scrubbed. live_by carrier (scrubs_of s e.what carrier (contains_in (scrubbed_by s e.what) carrier scrubbed));
     dead = λ carrier scrubbed live. dead_by carrier (scrubs_of s e.what carrier (contains_in (scrubbed_by s e.what) carrier scrubbed)) live;
     all = λ carrier live. all_found carrier (all_by carrier live.0 (needed_by s live.0 live.1) live.2);
   }

@@ -93,7 +93,8 @@ pub data Carried (s : State) (e : Entry) (p : ℕ) : Type 0 where
 -- how one legal entry moves payloads
 pub record PayloadsMove (s : State) (e : Entry) : Type 0 where
   pub carried : (p : ℕ) → is_needed (step s e) p ≡ true → Carried s e p
-  -- what is scrubbed is needed no more, and what is needed no more is scrubbed
+  -- what is scrubbed was needed and is needed no more, and what is needed no more is scrubbed
+  pub was_live : (carrier : Carrier) → Contains (scrubbed_by s e.what) carrier → IsLive s carrier
   pub dead : (carrier : Carrier) → Contains (scrubbed_by s e.what) carrier → IsLive (step s e) carrier → ⊥
   pub all : (carrier : Carrier) → IsLive s carrier → IsLive (step s e) carrier ⊎ Contains (scrubbed_by s e.what) carrier
 
