@@ -1,1 +1,2 @@
 pub mod SameGraph
+pub mod Twins
