@@ -1,2 +1,3 @@
 pub mod SameGraph
 pub mod Twins
+pub mod Values
