@@ -1,5 +1,5 @@
 -- No job holds two edge items of one key between the same births.
-use Rattle.std.proofs.Common.{◌≡◌, ℕ, zero, suc, ◌+◌, ◌≤◌, ◌<◌, Bool, true, false, cond, not, ◌&&◌, ◌||◌, eqb, List, [], ◌∷◌, ◌++◌, take, Option, Some, None, refl, sym, ap, ◌∙◌, subst, arith, inl, inr, ◌⊎◌}
+use Rattle.std.proofs.Common.{◌≡◌, ℕ, zero, suc, ◌≤◌, ◌<◌, Bool, true, false, cond, ◌&&◌, ◌||◌, eqb, List, [], ◌∷◌, ◌++◌, take, Option, Some, None, refl, sym, ap, ◌∙◌, subst, arith, inl, inr, ◌⊎◌}
 use Rattle.std.proofs.lemmas.Bool.{and_parts, and_from, eqb-true, eq-eqb, false≢true, or_cases}
 use Rattle.std.proofs.lemmas.List.Sums.{sum_by-cons}
 use Rattle.std.specs.Prelude.{is_some, is_none, slice_get, count_by, find}
@@ -10,16 +10,15 @@ use Rattle.delf_model.specs.declared.rows.Item.{Item}
 use Rattle.delf_model.specs.declared.rows.Item.TheVariants as item
 use Rattle.delf_model.specs.declared.call.Cause.{Cause}
 use Rattle.delf_model.specs.declared.entry.Entry.{Entry}
-use Rattle.delf_model.specs.declared.entry.Tag.{Tag}
 use Rattle.delf_model.specs.declared.entry.What.{What}
-use Rattle.delf_model.specs.declared.entry.What.TheVariants.{Create, Update, Link, Unlink, Delete, Restore, Expire, Cut, Erase, Put, Purge}
+use Rattle.delf_model.specs.declared.entry.What.TheVariants.{Link, Unlink, Restore, Cut, Erase, Put}
 use Rattle.delf_model.specs.RuleSet.{RuleSet}
-use Rattle.delf_model.specs.Graph.{Graph, TakesEdge, has_id, has_key, same_key, object_at, edge_at, edge_stands, stands, is_born_at, changed}
+use Rattle.delf_model.specs.Graph.{Graph, has_id, same_key, object_at, edge_at, edge_stands, stands, is_born_at, changed}
 use Rattle.delf_model.specs.State.{State, Logged, Handled, JobRow, start, step, after, owner, is_owned_by, graph_after, jobs_after, items_after, key_of, edge_item, object_item, unhandled, handled_at, outcome, judged, put_change, put_unless, job_of, is_restored, is_restored_row, birth_of, birth_of_row, restored_at, new_edge}
-use Rattle.delf_model.specs.Legal.{is_legal, is_legal_from, is_allowed, Legal, is_end_item, refusals}
+use Rattle.delf_model.specs.Legal.{is_legal, is_allowed, Legal, is_end_item, refusals}
 use Rattle.delf_model.specs.Sound.{is_erasure_of, erasures}
 use Rattle.std.specs.Option.{option_map}
-use Rattle.delf_model.proofs.Runs.{good_run, good_take}
+use Rattle.delf_model.proofs.Runs.{good_take}
 use Rattle.delf_model.proofs.Graphs.{same_key_is, same_key_refl, find-filter_edge, find-filter_object}
 use Rattle.delf_model.proofs.Lines.{allowed_of, none_of, free}
 use Rattle.delf_model.proofs.Leaves.{objects_leave, owner_is}
