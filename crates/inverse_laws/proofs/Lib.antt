@@ -1,0 +1,4 @@
+pub mod Back
+pub mod Inverse
+pub mod Items
+pub mod Outside
