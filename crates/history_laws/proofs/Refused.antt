@@ -16,10 +16,15 @@ use Rattle.delf_model.specs.Closure.{has, IsClosed, Calm}
 use Rattle.delf_model.specs.Sound.{ObjectsLeave, DoneErasesReached, TookClosure, PutsAreJudged, DistinctIds, object_id_of, OnlyPuts, is_put_by, RestoreIsUnion, PutBack}
 use Rattle.delf_model.specs.Worked.{example_rules, owning, edge}
 use Rattle.delf_model.proofs.Graphs.{same_key_is}
+use Rattle.reach_laws.proofs.Calm.{order_does_not_matter}
+use Rattle.inverse_laws.proofs.Example.{restored_alone}
 use Rattle.inverse_laws.specs.Example.{tag, at_zero, alone_history}
 use Rattle.history_laws.specs.Examples.{deleted_graph, left_behind, took_too_much, puts, edge_first, put_twice, erased_twice, photo_retaken, other_size, two_deletions}
 
 -- the closure
+
+pub exact : TookClosure example_rules deleted_graph 1 4 (after example_rules alone_history)
+exact = (order_does_not_matter example_rules alone_history refl).closure 4 1 12 (1 ∷ 2 ∷ []) restored_alone.restored.calm refl
 
 pub left : TookClosure example_rules deleted_graph 1 4 (after example_rules left_behind) → ⊥
 left took = false≢true (took.all 2 (λ ids closed held. closed.deep (key_of owning 1 2) refl refl held))

@@ -5,7 +5,7 @@ ghost use Rattle.std.specs.Prelude.{◌≡◌, ◌<◌, [], ◌∷◌, ◌++◌,
 ghost use Rattle.delf_model.specs.declared.entry.What.TheVariants.{Create, Erase, Put};
 ghost use Rattle.delf_model.specs.declared.call.Cause.TheVariants as cause;
 ghost use Rattle.delf_model.specs.declared.rows.Item.TheVariants as item;
-ghost use Rattle.delf_model.specs.State.{start, step, after, owner, judged};
+ghost use Rattle.delf_model.specs.State.{start, step, after, owner, owned, judged};
 ghost use Rattle.delf_model.specs.Legal.{Legal, is_legal_from, is_legal};
 ghost use Rattle.delf_model.specs.Order.{first_step, is_legal_step};
 ghost use Rattle.delf_model.specs.Report.{listed_at};
@@ -15,10 +15,13 @@ ghost use Rattle.delf_model.specs.Worked.{example_rules, user, photo, object, ed
 ghost use Rattle.inverse_laws.specs.Example.{tag, at_zero, deleted, alone_history};
 ghost use Rattle.history_laws.specs.Examples.{deleted_graph, left_behind, erased, took_too_much, restored, puts, edge_first, put_twice, erased_twice, photo_retaken, user_retaken, logged_edge, other_size, two_deletions, both_cut};
 
-/// A deletion that leaves the photo of its user did not take the closure, and neither did one that took another user.
-#[tactic(auto, using(crate::proofs::Refused::left, crate::proofs::Refused::more))]
+/// A deletion took the closure of its user, who owns a photo. One that leaves the photo did not, and is not done; and one
+/// that took another user did not either, which no legal entry does.
+#[tactic(auto, using(crate::proofs::Refused::exact, crate::proofs::Refused::left, crate::proofs::Refused::more))]
 pub fn closure_is_exact()
+    ensures exact { TookClosure example_rules deleted_graph 1 4 (after example_rules alone_history) }
     ensures left { TookClosure example_rules deleted_graph 1 4 (after example_rules left_behind) → ⊥ }
+    ensures not_done { owned (after example_rules left_behind) 4 ≡ 1 }
     ensures more { TookClosure example_rules deleted_graph 1 4 (after example_rules took_too_much) → ⊥ }
     ensures unowned { is_legal (after example_rules erased) (at_zero (Erase 4 9)) ≡ false }
 {}
