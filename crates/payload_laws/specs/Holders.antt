@@ -1,5 +1,5 @@
 -- Who holds a payload, and how one entry moves it from one record to another.
-use Rattle.std.specs.Prelude.{◌≡◌, ◌⊎◌, ℕ, ◌+◌, ◌<◌, Bool, true, false, cond, ◌&&◌, nat_eq, not, List, [], ◌∷◌, ◌++◌, Option, Some, None, length, slice_get, take, is_none, Contains}
+use Rattle.std.specs.Prelude.{◌≡◌, ◌⊎◌, ℕ, ◌+◌, ◌<◌, Bool, true, false, cond, ◌&&◌, nat_eq, not, List, [], ◌∷◌, Option, Some, None, length, slice_get, take, is_none, Contains}
 use Rattle.delf_model.specs.declared.rows.ObjectRow.{ObjectRow}
 use Rattle.delf_model.specs.declared.rows.EdgeKey.{EdgeKey}
 use Rattle.delf_model.specs.declared.rows.EdgeRow.{EdgeRow}
@@ -7,9 +7,9 @@ use Rattle.delf_model.specs.declared.entry.Entry.{Entry}
 use Rattle.delf_model.specs.declared.entry.What.{What}
 use Rattle.delf_model.specs.declared.entry.What.TheVariants.{Create, Update, Link, Unlink, Delete, Restore, Expire, Cut, Erase, Put, Purge}
 use Rattle.delf_model.specs.RuleSet.{RuleSet}
-use Rattle.delf_model.specs.Graph.{Graph, object_at, edge_at}
+use Rattle.delf_model.specs.Graph.{object_at, edge_at}
 use Rattle.delf_model.specs.State.{State, Logged, after, step, job_of, position_of, size_of, judged, key_of}
-use Rattle.delf_model.specs.Legal.{Legal, is_legal}
+use Rattle.delf_model.specs.Legal.{is_legal}
 use Rattle.delf_model.specs.Report.{was_put}
 use Rattle.delf_model.specs.Payloads.{is_needed, last_carrier, Carrier, Journal, Vault, position_of_object, position_of_edge}
 
@@ -93,7 +93,8 @@ pub data Carried (s : State) (e : Entry) (p : ℕ) : Type 0 where
 -- how one legal entry moves payloads
 pub record PayloadsMove (s : State) (e : Entry) : Type 0 where
   pub carried : (p : ℕ) → is_needed (step s e) p ≡ true → Carried s e p
-  -- what is scrubbed is needed no more, and what is needed no more is scrubbed
+  -- what is scrubbed was needed and is needed no more, and what is needed no more is scrubbed
+  pub was_live : (carrier : Carrier) → Contains (scrubbed_by s e.what) carrier → IsLive s carrier
   pub dead : (carrier : Carrier) → Contains (scrubbed_by s e.what) carrier → IsLive (step s e) carrier → ⊥
   pub all : (carrier : Carrier) → IsLive s carrier → IsLive (step s e) carrier ⊎ Contains (scrubbed_by s e.what) carrier
 
@@ -109,6 +110,8 @@ pub record PositionsHeld (s : State) : Type 0 where
       last_carrier s (position_of logged.item) ≡ Vault i
   -- two rows of the graph hold two positions
   pub apart : (a b : ℕ) (x y : ObjectRow) → object_at s.graph a ≡ Some x → object_at s.graph b ≡ Some y → x.at ≡ y.at → a ≡ b
+  pub edges_apart : (a b : EdgeKey) (x y : EdgeRow) → edge_at s.graph a ≡ Some x → edge_at s.graph b ≡ Some y → x.birth ≡ y.birth → a ≡ b
+  pub kinds_apart : (id : ℕ) (key : EdgeKey) (x : ObjectRow) (y : EdgeRow) → object_at s.graph id ≡ Some x → edge_at s.graph key ≡ Some y → x.at ≡ y.birth → ⊥
 
 -- the record at this place has a payload of this size
 abbrev pub HasSize : RuleSet → List Entry → ℕ → ℕ → Type 0

@@ -2,6 +2,8 @@
 //! contract of a function that does nothing.
 #![tactic(auto)]
 
+pub mod examples;
+
 ghost use Rattle.std.specs.Prelude.{List};
 ghost use Rattle.delf_model.specs.declared.entry.Entry.{Entry};
 ghost use Rattle.delf_model.specs.RuleSet.{RuleSet};
