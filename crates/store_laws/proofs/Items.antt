@@ -35,10 +35,7 @@ sizes_same (x ∷ xs) [] same = absurd (cc same)
 sizes_same (x ∷ xs) (y ∷ ys) same =
     let first : x.item ≡ y.item = cc same in
     let rest : map item_in xs ≡ map item_in ys = cc same in
-    cc (ap logged_size_of first, sizes_same xs ys rest)
-  where
-    logged_size_of : Item → ℕ
-    logged_size_of it = logged_size (record { item = it; handled = None })
+    cc (sizes_same xs ys rest)
 
 pub item_heads-append : (xs ys : List Logged) (seals more : List (List ℕ)) → length xs ≡ length seals → item_heads (xs ++ ys) (seals ++ more) ≡ item_heads xs seals ++ item_heads ys more
 item_heads-append [] ys [] more same = refl
