@@ -10,11 +10,11 @@ use Rattle.payload_laws.specs.Holders.{IsLive}
 use Rattle.store_laws.specs.Stores.{head_in, length_in, seal_in, seals_of, payload_in, item_heads, Spell, Hold}
 use Rattle.store_laws.proofs.Places.{replaced_other, replaced_heads, replaced_lengths}
 
-journal_other : (journal vault : List Record) (i : ℕ) (payload : List ℕ) (c : Carrier) → (c ≡ Journal i → ⊥) → payload_in (replaced journal i payload) vault c ≡ payload_in journal vault c
+pub journal_other : (journal vault : List Record) (i : ℕ) (payload : List ℕ) (c : Carrier) → (c ≡ Journal i → ⊥) → payload_in (replaced journal i payload) vault c ≡ payload_in journal vault c
 journal_other journal vault i payload (Journal q) apart = replaced_other journal i payload q (λ same. apart (ap Journal same))
 journal_other journal vault i payload (Vault q) apart = refl
 
-vault_other : (journal vault : List Record) (i : ℕ) (payload : List ℕ) (c : Carrier) → (c ≡ Vault i → ⊥) → payload_in journal (replaced vault i payload) c ≡ payload_in journal vault c
+pub vault_other : (journal vault : List Record) (i : ℕ) (payload : List ℕ) (c : Carrier) → (c ≡ Vault i → ⊥) → payload_in journal (replaced vault i payload) c ≡ payload_in journal vault c
 vault_other journal vault i payload (Journal q) apart = refl
 vault_other journal vault i payload (Vault q) apart = replaced_other vault i payload q (λ same. apart (ap Vault same))
 

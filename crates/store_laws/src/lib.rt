@@ -2,6 +2,8 @@
 //! contract of a function that does nothing.
 #![tactic(auto)]
 
+pub mod areas;
+
 ghost use Rattle.std.specs.Prelude.{◌≡◌, ℕ, true, List, [], ◌∷◌, ◌++◌, length};
 ghost use Rattle.gate_log.specs.Records.{Record, payload_of, replaced};
 ghost use Rattle.gate_log.specs.Logs.{Log};

@@ -1,4 +1,4 @@
-use Rattle.store_laws.proofs.Areas.{told_log, log_told}
+use Rattle.store_laws.proofs.Spelled.{told_log, log_told}
 use Rattle.store_laws.proofs.areas_are_logs.Goals as goal
 
 pub returns-clause-told : goal.returns-clause-told
