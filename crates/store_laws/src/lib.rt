@@ -3,6 +3,7 @@
 #![tactic(auto)]
 
 pub mod areas;
+pub mod examples;
 
 ghost use Rattle.std.specs.Prelude.{◌≡◌, ℕ, true, List, [], ◌∷◌, ◌++◌, length};
 ghost use Rattle.gate_log.specs.Records.{Record, payload_of, replaced};
