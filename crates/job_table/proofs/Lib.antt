@@ -22,3 +22,4 @@ pub mod FreeSteps
 pub mod NextSteps
 pub mod Owning
 pub mod Rising
+pub mod Naming

@@ -308,17 +308,6 @@ top_more seats items now spare i top next v e l h n =
     ∙ ap (λ (xs : List ℕ). greatest (take (i + 1) xs)) e
     ∙ ap (λ (m : SeatPart). greatest (take (i + 1) m.list)) v
 
-pub find_more : (rows items : List Row) (now : JobPart) (spare i : ℕ) (name : JobName) (got : Row) (found next : Option ℕ) → record { list = map row_of rows; spare = spare } ≡ now →
-    items ≡ rows → i < length items → got ≡ get_or items i got → found ≡ find_job (take i now.list) name →
-    next ≡ cond (same_name got.name name) (Some got.start) found → next ≡ find_job (take (i + 1) now.list) name
-find_more rows items now spare i name got found next v e l g h n =
-    let list : now.list ≡ map row_of items = ap (λ (m : JobPart). m.list) (sym v) ∙ ap (map row_of) (sym e) in
-    let short : i < length (map row_of items) = subst (λ (k : ℕ). i < k) (sym (map_length row_of items)) l in
-    let item : get_or (map row_of items) i (row_of got) ≡ row_of got = get_map row_of items i got ∙ ap row_of (sym g) in
-    n ∙ ap (λ (o : Option ℕ). cond (same_name got.name name) (Some got.start) o) (h ∙ ap (λ (xs : List JobRow). find_job (take i xs) name) list)
-    ∙ sym (ap (λ (xs : List JobRow). find_job (take (i + 1) xs) name) list ∙ ap (λ (xs : List JobRow). find_job xs name) (take_one (map row_of items) i (row_of got) short)
-    ∙ find_job_push name (take i (map row_of items)) (get_or (map row_of items) i (row_of got)) ∙ ap (λ (r : JobRow). cond (same_name r.name name) (Some r.start) (find_job (take i (map row_of items)) name)) item)
-
 pub weight_more : (kept items : List Kept) (now : ItemPart) (spare i sum w : ℕ) (got : Kept) (f : Logged → ℕ) → record { list = map logged_of kept; spare = spare } ≡ now →
     items ≡ kept → i < length items → got ≡ get_or items i got → sum ≡ sum_by f (take i now.list) → w ≡ f (logged_of got) →
     (sum + w ≡ sum_by f (take (i + 1) now.list)) × (sum + w ≤ sum_by f now.list)

@@ -118,7 +118,7 @@ rise_changed rows slice job i old y e p g s r =
     let facts = position-Some (is_start job) rows i old (sym (p ∙ ap (position (is_start job)) e)) in
     starts_set 0 4294967296 i y old rows facts.0 (s ∙ ap (λ (x : Row). x.start) g) ∙ r
 
-map_push : (xs : List Row) (y : Row) → map row_of (xs ++ y ∷ []) ≡ map row_of xs ++ row_of y ∷ []
+pub map_push : (xs : List Row) (y : Row) → map row_of (xs ++ y ∷ []) ≡ map row_of xs ++ row_of y ∷ []
 map_push [] y = refl
 map_push (x ∷ xs) y = ap (λ (l : List JobRow). row_of x ∷ l) (map_push xs y)
 

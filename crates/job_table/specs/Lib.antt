@@ -2,6 +2,7 @@ pub mod Apart
 pub mod Fits
 pub mod Free
 pub mod Items
+pub mod JobsFit
 pub mod Next
 pub mod Notes
 pub mod Owning

@@ -1,13 +1,16 @@
-ghost use Rattle.std.specs.Prelude.{◌≡◌, ◌+◌, ◌<◌, ◌≤◌, ◌^◌, ◌++◌, ◌∷◌, [], OnOk, length, slice_get, slice_index_or, option_map, map, cond, false, true, Some, ℕ, IsTrue};
+ghost use Rattle.std.specs.Prelude.{◌≡◌, ◌+◌, ◌<◌, ◌≤◌, ◌^◌, ◌++◌, ◌∷◌, [], OnOk, length, slice_get, slice_index_or, option_map, map, cond, count_by, nat_eq, false, true, Some, ℕ, IsTrue};
 ghost use Rattle.std.specs.List.{position};
-ghost use Rattle.job_table.specs.Parts.{row_of, changed_first, is_start, starts_before};
+ghost use Rattle.job_table.specs.Parts.{row_of, changed_first, is_start, starts_before, was_restored, has_restore};
+ghost use Rattle.std.specs.HashMap.{get, spare};
+ghost use Rattle.delf_model.specs.declared.ids.JobName.{JobName};
+ghost use Rattle.delf_model.specs.State.{same_name as is_same_name};
 ghost use Rattle.job_table.specs.declared.jobs.Row.{Row as RowValue};
 ghost use Rattle.job_table.specs.Table.{starts_rise};
 ghost use Rattle.delf_model.specs.State.{job_row, find_job, new_job, starts_at, restored_at, purged_if, erased_at};
-ghost use Rattle.delf_model.specs.State.{same_name as is_same_name};
 
 use delf_model::{Job, JobName, Moment, ObjectId};
 use std::alloc::{AllocError, Global};
+use std::collections::HashMap;
 use std::marker::Model;
 
 /// A job: the position of its start, its root and name, the position of its Restore, whether it is purged, and the
@@ -22,22 +25,27 @@ pub struct Row {
     pub last: Option<Moment>,
 }
 
-/// The jobs of a history by age.
+/// The jobs of a history by age, the latest job of each name, and how many jobs have a Restore.
 #[derive(Drop)]
 pub struct Jobs {
     rows: Vec<Row>,
+    named: HashMap<u32, u32>,
+    expiries: HashMap<u64, u32>,
+    restored: u64,
+    spare: u32,
 }
 
 impl Model for Jobs {
-    ghost use Rattle.std.specs.Prelude.{◌-◌, ◌<◌, ◌^◌, map, vec_len, vec_capacity, IsTrue};
+    ghost use Rattle.std.specs.Prelude.{map, nat_eq, vec_capacity};
+    ghost use Rattle.std.specs.HashMap.{get, spare as room_of};
     ghost use Rattle.job_table.specs.Parts.{JobPart, row_of};
-    ghost use Rattle.job_table.specs.Table.{starts_rise};
+    ghost use Rattle.job_table.specs.JobsFit.{JobsFit};
 
     ghost Value = { JobPart };
 
-    ghost view = { λ l. record { list = map row_of l.rows.items; spare = vec_capacity l.rows - vec_len l.rows } };
+    ghost view = { λ l. record { list = map row_of l.rows.items; spare = l.spare } };
 
-    ghost invariant = { λ l. (vec_len l.rows < 2 ^ 32) × IsTrue (starts_rise 0 4294967296 (map row_of l.rows.items)) };
+    ghost invariant = { λ l. JobsFit l.rows.items (get nat_eq l.named) (get nat_eq l.expiries) l.restored (vec_capacity l.rows) (room_of l.named) (room_of l.expiries) l.spare };
 }
 
 impl Jobs {
@@ -46,6 +54,10 @@ impl Jobs {
     {
         Jobs {
             rows: Vec::new(alloc),
+            named: HashMap::new(alloc),
+            expiries: HashMap::new(alloc),
+            restored: 0,
+            spare: 0,
         }
     }
 
@@ -54,7 +66,13 @@ impl Jobs {
         ensures ok { OnOk result (n ≤ self.new.spare) }
         ensures kept { self.old.spare ≤ self.new.spare }
     {
+        if n <= self.spare {
+            return Ok(());
+        }
         self.rows.reserve(n as usize)?;
+        self.named.reserve(n as usize)?;
+        self.expiries.reserve(n as usize)?;
+        self.spare = n;
         Ok(())
     }
 
@@ -66,6 +84,7 @@ impl Jobs {
         ensures list { self.new.list ≡ self.old.list ++ new_job start root name ∷ [] }
         ensures spare { self.new.spare + 1 ≡ self.old.spare }
     {
+        note_name(&mut self.named, &mut self.expiries, &name, start.0);
         self.rows.push_reserved(Row {
             start,
             root,
@@ -74,6 +93,14 @@ impl Jobs {
             purged: false,
             last: None,
         });
+        self.spare -= 1;
+    }
+
+    /// How many jobs have a Restore.
+    pub fn restored(&self) -> u64
+        ensures { result ≡ count_by has_restore self.now.list }
+    {
+        self.restored
     }
 
     /// The rows, by age.
@@ -101,11 +128,16 @@ impl Jobs {
     pub fn find(&self, name: JobName) -> Option<Job>
         ensures { result ≡ find_job self.now.list name }
     {
-        let mut found = None;
-        for row in &self.rows {
-            found = later(found, row, &name);
+        match name {
+            JobName::Named(n) => match self.named.get(&n) {
+                Some(start) => Some(Job(*start)),
+                None => None,
+            },
+            JobName::Expiry(id) => match self.expiries.get(&id.get()) {
+                Some(start) => Some(Job(*start)),
+                None => None,
+            },
         }
-        found
     }
 
     pub fn restore(&mut self, job: Job, at: u32)
@@ -114,7 +146,11 @@ impl Jobs {
         ensures spare { self.new.spare ≡ self.old.spare }
     {
         match place(&self.rows, job) {
-            Some(i) => self.rows[i].restored = Some(at),
+            Some(i) => {
+                let more = first_restore(&self.rows[i]);
+                self.restored += more;
+                self.rows[i].restored = Some(at);
+            }
             None => {}
         }
     }
@@ -142,14 +178,40 @@ impl Jobs {
     }
 }
 
-/// The job of this row where it has the name, else what was found before.
-fn later(found: Option<Job>, row: &Row, name: &JobName) -> Option<Job>
-    ensures { result ≡ cond (is_same_name row.now.name name.now) (Some row.now.start) found }
+/// Notes that the name means the job that starts here.
+fn note_name(
+    named: &mut HashMap<u32, u32>,
+    expiries: &mut HashMap<u64, u32>,
+    name: &JobName,
+    start: u32,
+)
+    requires named { 0 < spare named.old }
+    requires expiries { 0 < spare expiries.old }
+    ensures named { (n : ℕ) → get nat_eq named.new n ≡ cond (is_same_name name.now (JobName.Named n)) (Some start) (get nat_eq named.old n) }
+    ensures expiries { (id : ℕ) → get nat_eq expiries.new id ≡ cond (is_same_name name.now (JobName.Expiry id)) (Some start) (get nat_eq expiries.old id) }
+    ensures named_spare { spare named.old ≤ spare named.new + 1 }
+    ensures expiries_spare { spare expiries.old ≤ spare expiries.new + 1 }
 {
-    if same_name(&row.name, name) {
-        return Some(row.start);
+    match name {
+        JobName::Named(n) => match named.insert(*n, start) {
+            Ok(_) => {}
+            Err(_) => unreachable!(),
+        },
+        JobName::Expiry(id) => match expiries.insert(id.get(), start) {
+            Ok(_) => {}
+            Err(_) => unreachable!(),
+        },
     }
-    found
+}
+
+/// How many more jobs have a Restore once this one has.
+fn first_restore(row: &Row) -> u64
+    ensures { result ≡ cond (was_restored row.now) 0 1 }
+{
+    match row.restored {
+        Some(_) => 0,
+        None => 1,
+    }
 }
 
 /// The place of the job that starts at this position; rows go by rising start.
@@ -181,19 +243,4 @@ fn place_from(rows: &[Row], job: Job) -> usize
     ensures after { (k : ℕ) (d : RowValue) → result ≤ k → k < length rows.now → starts_before job (slice_index_or rows.now k d) ≡ false }
 {
     rows.partition_point(|row| row.start.0 < job.0)
-}
-
-fn same_name(a: &JobName, b: &JobName) -> bool
-    ensures { result ≡ is_same_name a.now b.now }
-{
-    match a {
-        JobName::Named(a) => match b {
-            JobName::Named(b) => *a == *b,
-            JobName::Expiry(_) => false,
-        },
-        JobName::Expiry(a) => match b {
-            JobName::Named(_) => false,
-            JobName::Expiry(b) => a.get() == b.get(),
-        },
-    }
 }

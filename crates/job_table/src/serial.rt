@@ -150,6 +150,9 @@ impl JobTable {
     fn first_put(&self) -> Option<What>
         ensures { (s : State) → IsTableOf s self.now → result ≡ put_of_state s }
     {
+        if self.jobs.restored() == 0 {
+            return None;
+        }
         let rows = self.jobs.rows();
         match place_of_oldest(rows, &self.items) {
             Some(i) => self.put_of(rows[i].start),
