@@ -1,3 +1,4 @@
+pub mod Allowing
 pub mod Changes
 pub mod Entering
 pub mod Judging

@@ -1,4 +1,4 @@
-ghost use Rattle.std.specs.Prelude.{◌≡◌, ◌+◌, ◌*◌, ◌≤◌, ℕ, IfOk, length, nat_eq, [], true, OnOk, IsTrue};
+ghost use Rattle.std.specs.Prelude.{◌≡◌, ◌+◌, ◌*◌, ◌≤◌, ◌&&◌, ℕ, IfOk, length, nat_eq, [], true, OnOk, IsTrue};
 ghost use Rattle.delf_model.specs.declared.entry.What.{What};
 ghost use Rattle.delf_model.specs.RuleSet.{is_refcount};
 ghost use Rattle.delf_model.specs.Graph.{empty_graph};
@@ -8,10 +8,11 @@ ghost use Rattle.delf_model.specs.Order.{first_step};
 ghost use Rattle.delf_model.specs.Report.{status as status_of, job_at as line_at, listed_at as listed_of, items_of};
 ghost use Rattle.delf_model.specs.Sound.{FirstIsLegal};
 ghost use Rattle.job_table.specs.Table.{IsTableOf, IsGraphOf, item_at as item_of, top_seat as greatest_seat};
-ghost use Rattle.delf_book.specs.Ledgers.{state_of, is_ready, is_numbered_call, found, IsSame, HasEntered};
+ghost use Rattle.delf_book.specs.Ledgers.{state_of, is_ready, is_numbered_call, record_size as record_size_of, found, IsSame, HasEntered};
 
-use crate::edit::{carry_out, edit_of, make_room};
+use crate::edit::{carry_out, edit_of, make_room, record_size};
 use crate::entries::Entries;
+use crate::legal::is_legal;
 use delf_model::{
     Call, Entry, GraphStore, Item, Job, JobLine, JobName, Listed, Moment, ObjectId, ObjectRow,
     Refusal, Rules, Status, Tag, What,
@@ -206,6 +207,26 @@ impl<G: GraphStore> Ledger<G> {
             k: self.jobs.seat_entries(seat),
         };
         judge(&self.graph, &self.jobs, &self.rules, moment, tag, call)
+    }
+
+    /// Whether the entry may come next. Takes no memory.
+    pub fn is_legal(&self, entry: &Entry) -> bool
+        ensures { result ≡ is_legal (state_of self.now) entry.now }
+    {
+        is_legal(&self.graph, &self.jobs, &self.rules, entry)
+    }
+
+    /// Whether the entry may come next, and its record has a payload of this size.
+    pub(crate) fn fits(&self, entry: &Entry, size: u16) -> bool
+        ensures { result ≡ (is_legal (state_of self.now) entry.now && nat_eq size (record_size_of (state_of self.now) entry.now.what)) }
+    {
+        self.is_legal(entry) && size == self.record_size(&entry.what)
+    }
+
+    fn record_size(&self, what: &What) -> u16
+        ensures { result ≡ record_size_of (state_of self.now) what.now }
+    {
+        record_size(&self.graph, &self.jobs, what)
     }
 
     /// Makes room for `n` further entries and held steps together, but for what they put into the graph. The only error

@@ -1,8 +1,13 @@
 //! The book: what the service knows of one history, and the one way to make the history longer.
 #![tactic(auto)]
 
+mod blank;
 mod edit;
 mod entries;
+mod folds;
 mod ledger;
+mod legal;
 
+pub use blank::fold;
+pub use folds::Fold;
 pub use ledger::Ledger;

@@ -7,3 +7,4 @@ mod refusals;
 mod restores;
 
 pub use calls::judge;
+pub use kinds::{refused_create, refused_delete, refused_link, refused_unlink, refused_update};
