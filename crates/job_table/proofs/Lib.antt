@@ -23,3 +23,4 @@ pub mod NextSteps
 pub mod Owning
 pub mod Rising
 pub mod Naming
+pub mod Seating
