@@ -24,3 +24,4 @@ pub mod NextSteps
 pub mod Owning
 pub mod Rising
 pub mod Naming
+pub mod Seating

@@ -9,7 +9,7 @@ use Rattle.delf_model.specs.declared.ids.JobName.{JobName}
 use Rattle.delf_model.specs.State.{JobRow, Logged, Handled, job_row, starts_at, handled_at, find_job, last_of, named_start, same_name, is_job}
 use Rattle.delf_model.specs.Order.{erases_same}
 use Rattle.job_table.specs.Table.{given_up, greatest, owner_among, owned_among, is_of_id, is_of_owner, job_of_pair}
-use Rattle.job_table.specs.Parts.{changed_first, row_of, is_start, logged_of, handled_of, ItemPart, JobPart, SeatPart, ClaimPart}
+use Rattle.job_table.specs.Parts.{changed_first, row_of, is_start, logged_of, handled_of, ItemPart, JobPart, ClaimPart}
 use Rattle.job_table.specs.declared.items.Kept.{Kept}
 use Rattle.job_table.specs.declared.items.Handling.{Handling}
 use Rattle.job_table.specs.declared.jobs.Row.{Row}
@@ -296,17 +296,6 @@ pub get_map : {A B : Type 0} (g : A → B) (xs : List A) (i : ℕ) (d : A) → g
 get_map g [] i d = refl
 get_map g (x ∷ xs) zero d = refl
 get_map g (x ∷ xs) (suc i) d = get_map g xs i d
-
-pub top_more : (seats items : List ℕ) (now : SeatPart) (spare i top next : ℕ) → record { list = seats; spare = spare } ≡ now → items ≡ seats → i < length items →
-    top ≡ greatest (take i now.list) → next ≡ max top (get_or items i 0) → next ≡ greatest (take (i + 1) now.list)
-top_more seats items now spare i top next v e l h n =
-    n ∙ ap (λ (m : ℕ). max m (get_or items i 0)) h
-    ∙ ap (λ (m : SeatPart). max (greatest (take i m.list)) (get_or items i 0)) (sym v)
-    ∙ ap (λ (xs : List ℕ). max (greatest (take i xs)) (get_or items i 0)) (sym e)
-    ∙ sym (greatest_push (take i items) (get_or items i 0))
-    ∙ ap greatest (sym (take_one items i 0 l))
-    ∙ ap (λ (xs : List ℕ). greatest (take (i + 1) xs)) e
-    ∙ ap (λ (m : SeatPart). greatest (take (i + 1) m.list)) v
 
 pub weight_more : (kept items : List Kept) (now : ItemPart) (spare i sum w : ℕ) (got : Kept) (f : Logged → ℕ) → record { list = map logged_of kept; spare = spare } ≡ now →
     items ≡ kept → i < length items → got ≡ get_or items i got → sum ≡ sum_by f (take i now.list) → w ≡ f (logged_of got) →

@@ -8,5 +8,6 @@ pub mod Next
 pub mod Notes
 pub mod Owning
 pub mod Parts
+pub mod SeatsFit
 pub mod Serial
 pub mod Table
