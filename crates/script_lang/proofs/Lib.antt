@@ -1,0 +1,3 @@
+pub mod TypeNumberLemmas
+pub mod ScriptLemmas
+pub mod GeneratedLemmas

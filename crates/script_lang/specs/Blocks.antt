@@ -13,7 +13,7 @@ use Rattle.script_lang.specs.declared.block.LaneLine.{LaneLine}
 use Rattle.script_lang.specs.declared.block.LaneLine.TheVariants.{Begin, Within, End}
 use Rattle.script_lang.specs.Parts.{mapped}
 use Rattle.script_lang.specs.Calls.{call_line}
-use Rattle.script_lang.specs.Commands.{alone, one_number}
+use Rattle.script_lang.specs.Commands.{nothing_more, one_number}
 
 -- whether this is the line that begins a lane
 abbrev pub is_lane_line : List Word → Bool
@@ -23,8 +23,8 @@ is_lane_line words = false
 abbrev pub mark_line : List ℕ → List Word → Result LaneLine Wrong
 mark_line keyword words =
     if bytes_eq keyword (codes "get") then mapped (λ id. Within (Get id)) (one_number 1 999999999999 words)
-    else (if bytes_eq keyword (codes "lane") then alone Begin words
-    else (if bytes_eq keyword (codes "end") then alone End words
+    else (if bytes_eq keyword (codes "lane") then mapped (λ nothing. Begin) (nothing_more words)
+    else (if bytes_eq keyword (codes "end") then mapped (λ nothing. End) (nothing_more words)
     else Err Malformed))
 
 abbrev pub within_or : Result (Option Call) Wrong → Result LaneLine Wrong → Result LaneLine Wrong
@@ -33,6 +33,6 @@ within_or (Ok None) other = other
 within_or (Err wrong) other = Err wrong
 
 -- a line in a lane
-abbrev pub lane_line : Schema → List Word → Result LaneLine Wrong
+unfoldable pub lane_line : Schema → List Word → Result LaneLine Wrong
 lane_line schema [] = Err Malformed
 lane_line schema (keyword ∷ words) = within_or (call_line schema (word_text keyword) words) (mark_line (word_text keyword) words)

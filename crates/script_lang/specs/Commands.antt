@@ -16,9 +16,9 @@ use Rattle.script_lang.specs.Parts.{both, mapped, number_part}
 use Rattle.script_lang.specs.Calls.{call_line, job_name}
 
 -- a line whose first word is all
-abbrev pub alone : {A : Type 0} → A → List Word → Result A Wrong
-alone said [] = Ok said
-alone said (word ∷ more) = Err Malformed
+abbrev pub nothing_more : List Word → Result (Unit {0}) Wrong
+nothing_more [] = Ok tt
+nothing_more (word ∷ more) = Err Malformed
 
 -- a line with one number of these bounds behind its first word
 abbrev pub one_number : ℕ → ℕ → List Word → Result ℕ Wrong
@@ -31,10 +31,10 @@ serial_line keyword words =
     if bytes_eq keyword (codes "work") then mapped (λ n. Work n) (one_number 1 1000000 words)
     else (if bytes_eq keyword (codes "tick") then mapped (λ n. Tick n) (one_number 1 999999999999 words)
     else (if bytes_eq keyword (codes "get") then mapped (λ id. Get id) (one_number 1 999999999999 words)
-    else (if bytes_eq keyword (codes "show") then alone Show words
+    else (if bytes_eq keyword (codes "show") then mapped (λ nothing. Show) (nothing_more words)
     else (if bytes_eq keyword (codes "job") then mapped (λ name. Job name) (job_name words)
-    else (if bytes_eq keyword (codes "jobs") then alone Jobs words
-    else (if bytes_eq keyword (codes "report") then alone Report words
+    else (if bytes_eq keyword (codes "jobs") then mapped (λ nothing. Jobs) (nothing_more words)
+    else (if bytes_eq keyword (codes "report") then mapped (λ nothing. Report) (nothing_more words)
     else (if bytes_eq keyword (codes "fail") then mapped (λ n. Fail n) (one_number 1 1000000 words)
     else (if bytes_eq keyword (codes "crash") then mapped (λ pick. Crash pick) (one_number 0 18446744073709551615 words)
     else Err Malformed))))))))
@@ -62,6 +62,6 @@ submitted_or (Ok None) other = other
 submitted_or (Err wrong) other = Err wrong
 
 -- a line outside of a block
-abbrev pub script_line : Schema → List Word → Result ScriptLine Wrong
+unfoldable pub script_line : Schema → List Word → Result ScriptLine Wrong
 script_line schema [] = Err Malformed
 script_line schema (keyword ∷ words) = submitted_or (call_line schema (word_text keyword) words) (other_line (word_text keyword) words)

@@ -6,3 +6,4 @@ pub mod Scripts
 pub mod Documents
 pub mod TypeNumbers
 pub mod Lines
+pub mod Generated

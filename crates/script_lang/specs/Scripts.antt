@@ -79,7 +79,7 @@ said_at schema commands Outside words = behind_script_line commands (script_line
 said_at schema commands (Opened head) words = behind_head commands head (is_lane_line words)
 said_at schema commands (InLane block) words = behind_lane_line commands block (lane_line schema words)
 
-abbrev pub behind_words : Schema → Reading → List Word → Result Reading Wrong
+unfoldable pub behind_words : Schema → Reading → List Word → Result Reading Wrong
 behind_words schema reading words = said_at schema reading.commands reading.place words
 
 abbrev pub at_line : {A : Type 0} → ℕ → Result A Wrong → Result A Fault
@@ -87,7 +87,7 @@ at_line number (Ok x) = Ok x
 at_line number (Err wrong) = Err (record { line = number; text = text_of wrong })
 
 -- what was read behind a line: a skipped one says nothing, and one with a malformed payload fits no line
-abbrev pub behind_line : Schema → ℕ → Reading → Line → Result Reading Fault
+unfoldable pub behind_line : Schema → ℕ → Reading → Line → Result Reading Fault
 behind_line schema number reading Skipped = Ok reading
 behind_line schema number reading Faulty = at_line number (Err Malformed)
 behind_line schema number reading (Words words) = at_line number (behind_words schema reading words)

@@ -1,11 +1,12 @@
 ghost use Rattle.std.specs.Prelude.{◌≡◌, IfOk};
+ghost use Rattle.delf_model.specs.declared.schema.Schema.{Schema};
 ghost use Rattle.schema_lang.specs.Spelling.{IsSpellable};
 ghost use Rattle.script_lang.specs.Parts.{Reads};
 ghost use Rattle.script_lang.specs.Blocks.{is_lane_line, mark_line, lane_line};
 ghost use Rattle.script_lang.specs.Lines.{LaneLineNames};
 
 use crate::call::read_call;
-use crate::command::{alone, one_id};
+use crate::command::{nothing_more, one_id};
 use crate::fault::{LineFault, Wrong};
 use crate::part::text;
 use delf_model::{LaneCommand, Schema};
@@ -34,26 +35,26 @@ pub fn is_lane_line(words: &[Word]) -> bool
 }
 
 fn read_mark(keyword: &[u8], words: &[Word]) -> Result<LaneLine, Wrong>
-    ensures { result ≡ mark_line keyword.now words.now }
+    ensures line { result ≡ mark_line keyword.now words.now }
+    ensures names { (schema : Schema) → IfOk result (LaneLineNames schema) }
 {
     if keyword == b"get".as_slice() {
         return Ok(LaneLine::Within(LaneCommand::Get(one_id(words)?)));
     }
     if keyword == b"lane".as_slice() {
-        return alone(LaneLine::Begin, words);
+        nothing_more(words)?;
+        return Ok(LaneLine::Begin);
     }
     if keyword == b"end".as_slice() {
-        return alone(LaneLine::End, words);
+        nothing_more(words)?;
+        return Ok(LaneLine::End);
     }
     Err(Wrong::Malformed)
 }
 
 /// What the words of a line in a lane say.
-pub fn read_lane_line(
-    alloc: Global,
-    schema: &Schema,
-    words: &[Word],
-) -> Result<LaneLine, LineFault>
+#[tactic(auto, unfolding(crate::specs::Blocks::lane_line))]
+pub fn read_lane_line(alloc: Global, schema: &Schema, words: &[Word]) -> Result<LaneLine, LineFault>
     requires { IsSpellable schema.now }
     ensures line { Reads result (lane_line schema.now words.now) }
     ensures names { IfOk result (LaneLineNames schema.now) }

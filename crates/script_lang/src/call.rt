@@ -1,4 +1,5 @@
 ghost use Rattle.std.specs.Prelude.{◌≡◌, IfOk, IfSome, Option, Some, None};
+ghost use Rattle.delf_model.specs.declared.schema.Schema.{Schema};
 ghost use Rattle.schema_lang.specs.Spelling.{IsSpellable};
 ghost use Rattle.script_lang.specs.Parts.{Reads, mapped};
 ghost use Rattle.script_lang.specs.Calls.{created, create_line, update_line, linked, link_line, unlinked, unlink_line, delete_line, job_name, call_line};
@@ -125,7 +126,8 @@ fn read_unlink(alloc: Global, schema: &Schema, words: &[Word]) -> Result<Call, L
 }
 
 fn read_delete(words: &[Word]) -> Result<Call, Wrong>
-    ensures { result ≡ delete_line words.now }
+    ensures call { result ≡ delete_line words.now }
+    ensures names { (schema : Schema) → IfOk result (CallNames schema) }
 {
     match words {
         [id, job, name] if text(job) == b"job".as_slice() => {

@@ -1,7 +1,9 @@
 ghost use Rattle.std.specs.Prelude.{◌≡◌, IfOk};
+ghost use Rattle.delf_model.specs.declared.schema.Schema.{Schema};
 ghost use Rattle.schema_lang.specs.Spelling.{IsSpellable};
 ghost use Rattle.script_lang.specs.Parts.{Reads};
-ghost use Rattle.script_lang.specs.Commands.{alone, one_number, serial_line, block_head, par_line, other_line, script_line};
+ghost use Rattle.script_lang.specs.Commands.{nothing_more, one_number, serial_line, block_head, par_line, other_line, script_line};
+ghost use Rattle.script_lang.specs.TypeNumbers.{CommandNames};
 ghost use Rattle.script_lang.specs.Lines.{ScriptLineNames};
 
 use crate::call::{read_call, read_job_name};
@@ -31,12 +33,12 @@ pub enum ScriptLine {
     Block(BlockHead),
 }
 
-/// Where nothing stands behind the first word, what it says.
-pub fn alone<T: Drop>(said: T, words: &[Word]) -> Result<T, Wrong>
-    ensures { result ≡ alone said words.now }
+/// Whether nothing stands behind the first word.
+pub fn nothing_more(words: &[Word]) -> Result<(), Wrong>
+    ensures { result ≡ nothing_more words.now }
 {
     if words.is_empty() {
-        Ok(said)
+        Ok(())
     } else {
         Err(Wrong::Malformed)
     }
@@ -73,10 +75,13 @@ fn one_count(words: &[Word]) -> Result<u32, Wrong>
 }
 
 fn read_serial(keyword: &[u8], words: &[Word]) -> Result<Command, Wrong>
-    ensures { result ≡ serial_line keyword.now words.now }
+    ensures command { result ≡ serial_line keyword.now words.now }
+    ensures names { (schema : Schema) → IfOk result (CommandNames schema) }
 {
     if keyword == b"work".as_slice() {
-        return Ok(Command::Work { n: one_count(words)? });
+        return Ok(Command::Work {
+            n: one_count(words)?,
+        });
     }
     if keyword == b"tick".as_slice() {
         let n = one_number(1, 999_999_999_999, words)?;
@@ -86,19 +91,24 @@ fn read_serial(keyword: &[u8], words: &[Word]) -> Result<Command, Wrong>
         return Ok(Command::Get(one_id(words)?));
     }
     if keyword == b"show".as_slice() {
-        return alone(Command::Show, words);
+        nothing_more(words)?;
+        return Ok(Command::Show);
     }
     if keyword == b"job".as_slice() {
         return Ok(Command::Job(read_job_name(words)?));
     }
     if keyword == b"jobs".as_slice() {
-        return alone(Command::Jobs, words);
+        nothing_more(words)?;
+        return Ok(Command::Jobs);
     }
     if keyword == b"report".as_slice() {
-        return alone(Command::Report, words);
+        nothing_more(words)?;
+        return Ok(Command::Report);
     }
     if keyword == b"fail".as_slice() {
-        return Ok(Command::Fail { n: one_count(words)? });
+        return Ok(Command::Fail {
+            n: one_count(words)?,
+        });
     }
     if keyword == b"crash".as_slice() {
         let pick = one_number(0, u64::MAX, words)?;
@@ -112,8 +122,7 @@ fn read_head(quiet: bool, words: &[Word]) -> Result<BlockHead, Wrong>
 {
     match words {
         [workers, most, turns, steps]
-            if text(workers) == b"workers".as_slice() && text(turns) == b"turns".as_slice() =>
-        {
+            if text(workers) == b"workers".as_slice() && text(turns) == b"turns".as_slice() => {
             let (workers, turns) = both(read_part(most, 0, 16), read_part(steps, 1, 1_000_000))?;
             Ok(BlockHead {
                 quiet,
@@ -135,7 +144,8 @@ fn read_par(words: &[Word]) -> Result<BlockHead, Wrong>
 }
 
 fn read_other(keyword: &[u8], words: &[Word]) -> Result<ScriptLine, Wrong>
-    ensures { result ≡ other_line keyword.now words.now }
+    ensures line { result ≡ other_line keyword.now words.now }
+    ensures names { (schema : Schema) → IfOk result (ScriptLineNames schema) }
 {
     if keyword == b"par".as_slice() {
         return Ok(ScriptLine::Block(read_par(words)?));
@@ -144,6 +154,7 @@ fn read_other(keyword: &[u8], words: &[Word]) -> Result<ScriptLine, Wrong>
 }
 
 /// What the words of a line outside of a block say.
+#[tactic(auto, unfolding(crate::specs::Commands::script_line))]
 pub fn read_script_line(
     alloc: Global,
     schema: &Schema,

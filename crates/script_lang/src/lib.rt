@@ -6,10 +6,14 @@ mod call;
 mod command;
 mod document;
 mod fault;
+mod groups;
 mod part;
 mod place;
 mod script;
+#[cfg(test)]
+mod tests;
 
 pub use document::{DOCUMENT_LIMIT, parse_document, told_fault, too_long};
 pub use fault::DocumentFault;
+pub use groups::generated;
 pub use script::parse_script;

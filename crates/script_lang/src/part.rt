@@ -34,7 +34,10 @@ fn worse(one: Wrong, other: Wrong) -> Wrong
 }
 
 /// Two parts of a line, or what is wrong with them.
-pub fn both<A: Drop, B: Drop>(one: Result<A, Wrong>, other: Result<B, Wrong>) -> Result<(A, B), Wrong>
+pub fn both<A: Drop, B: Drop>(
+    one: Result<A, Wrong>,
+    other: Result<B, Wrong>,
+) -> Result<(A, B), Wrong>
     ensures { result ≡ both one other }
 {
     match (one, other) {

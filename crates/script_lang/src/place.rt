@@ -142,7 +142,11 @@ fn with_command(block: OpenBlock, command: LaneCommand) -> Result<OpenBlock, All
     })
 }
 
-fn with_block(mut commands: Script, head: BlockHead, lanes: List<Lane>) -> Result<Script, AllocError>
+fn with_block(
+    mut commands: Script,
+    head: BlockHead,
+    lanes: List<Lane>,
+) -> Result<Script, AllocError>
     ensures { IfOk result (λ more. more ≡ with_block commands head lanes) }
 {
     let BlockHead {
@@ -187,6 +191,7 @@ fn behind_lane_line(
 }
 
 /// What was read of a script with a line of these words.
+#[tactic(auto, unfolding(crate::specs::Scripts::behind_words))]
 pub fn behind_words(
     alloc: Global,
     schema: &Schema,

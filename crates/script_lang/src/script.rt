@@ -39,6 +39,7 @@ pub fn wrong_at(alloc: Global, line: u32, wrong: &Wrong) -> DocumentFault
 }
 
 // What was read of a script with a line of this number.
+#[tactic(auto, unfolding(crate::specs::Scripts::behind_line))]
 fn behind_line(
     alloc: Global,
     schema: &Schema,
@@ -93,7 +94,10 @@ pub fn parse_script(
     let mut number = first;
     let mut rest = bytes;
     while let Some((line, after)) = split_line(rest) {
-        reading = behind_line(alloc, schema, number, reading, line)?;
+        reading = match behind_line(alloc, schema, number, reading, line) {
+            Ok(reading) => reading,
+            Err(fault) => return Err(fault),
+        };
         number = number.saturating_add(1);
         rest = after;
     }
