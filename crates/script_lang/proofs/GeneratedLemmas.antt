@@ -1,5 +1,5 @@
 -- The groups below one number more, and the type numbers of the script that is made to a size.
-use Rattle.std.proofs.Common.{◌≡◌, ℕ, zero, suc, ◌+◌, ◌*◌, ◌/◌, ◌%◌, ◌==◌, ◌<◌, Bool, true, false, cond, List, [], ◌∷◌, ◌++◌, length, map, refl, sym, ap, subst, ◌∙◌, arith, lit<, append_assoc, append-nil}
+use Rattle.std.proofs.Common.{◌≡◌, ℕ, zero, suc, ◌+◌, ◌%◌, ◌==◌, Bool, true, false, cond, List, [], ◌∷◌, ◌++◌, map, refl, sym, ap, subst, ◌∙◌, arith, lit<, append_assoc, append-nil}
 use Rattle.std.specs.List.{All, filter, flat_map, range_with_len}
 use Rattle.std.proofs.lemmas.List.Elements.{All-nil, All-cons, All-append, All-map, All-push, All-same, All-from_recursion, filter-append}
 use Rattle.std.proofs.lemmas.Grind.{flat_map-append}
@@ -13,7 +13,7 @@ use Rattle.delf_model.specs.declared.script.LaneCommand.{LaneCommand}
 use Rattle.delf_model.specs.declared.script.LaneCommand.TheVariants as lane
 use Rattle.delf_model.specs.declared.schema.Schema.{Schema}
 use Rattle.script_lang.specs.TypeNumbers.{LaneCommandNames, LaneNames, CommandNames}
-use Rattle.script_lang.specs.Generated.{generated_schema, user_created, photo_created, linked, objects_of, links_of, ring_of, deletion_of, all_links_of, user_of, job_of, group_of, is_in_lane, lane_of, restored, restores_of, script_of_groups}
+use Rattle.script_lang.specs.Generated.{generated_schema, objects_of, links_of, ring_of, deletion_of, all_links_of, user_of, job_of, group_of, is_in_lane, lane_of, restored, restores_of, script_of_groups}
 
 range_more : (a n : ℕ) → range_with_len a (n + 1) ≡ range_with_len a n ++ (a + n) ∷ []
 range_more a zero = let e : a ≡ a + 0 = omega arith in ap (λ k. k ∷ []) e

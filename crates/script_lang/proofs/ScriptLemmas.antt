@@ -1,5 +1,5 @@
 -- The lines of a script, one after the other.
-use Rattle.std.proofs.Common.{◌≡◌, ℕ, Result, Ok, Err, List, [], ◌∷◌, refl, sym, ap, ◌∙◌}
+use Rattle.std.proofs.Common.{◌≡◌, ℕ, Result, Ok, List, [], ◌∷◌, refl, sym, ap, ◌∙◌}
 use Rattle.delf_model.specs.declared.script.Command.{Command}
 use Rattle.delf_model.specs.declared.schema.Schema.{Schema}
 use Rattle.schema_lang.specs.Words.{line_of}

@@ -1,5 +1,5 @@
 -- The type numbers in what was read behind a line in a lane.
-use Rattle.std.proofs.Common.{◌≡◌, IfOk, Bool, true, false, cond, Result, Ok, Err, List, [], ◌∷◌, ◌++◌, length, nat_lt, sym, subst}
+use Rattle.std.proofs.Common.{◌≡◌, IfOk, Bool, true, false, cond, Result, Ok, Err, List, [], length, nat_lt, sym, subst}
 use Rattle.std.specs.List.{All}
 use Rattle.std.proofs.lemmas.List.Elements.{All-nil, All-push, All-same}
 use Rattle.delf_model.specs.declared.script.Command.{Command}

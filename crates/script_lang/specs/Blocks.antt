@@ -2,13 +2,12 @@
 use Rattle.std.specs.Prelude.{ℕ, Bool, false, Option, Some, None, Result, Ok, Err, List, [], ◌∷◌, if◌then◌else◌, codes}
 use Rattle.std.specs.Str.{bytes_eq}
 use Rattle.delf_model.specs.declared.call.Call.{Call}
-use Rattle.delf_model.specs.declared.script.LaneCommand.{LaneCommand}
 use Rattle.delf_model.specs.declared.script.LaneCommand.TheVariants.{Submit, Get}
 use Rattle.delf_model.specs.declared.schema.Schema.{Schema}
 use Rattle.schema_lang.specs.declared.line.Word.{Word}
 use Rattle.schema_lang.specs.Rows.{word_text}
 use Rattle.script_lang.specs.declared.fault.Wrong.{Wrong}
-use Rattle.script_lang.specs.declared.fault.Wrong.TheVariants.{Malformed, OutOfRange, Unknown}
+use Rattle.script_lang.specs.declared.fault.Wrong.TheVariants.{Malformed}
 use Rattle.script_lang.specs.declared.block.LaneLine.{LaneLine}
 use Rattle.script_lang.specs.declared.block.LaneLine.TheVariants.{Begin, Within, End}
 use Rattle.script_lang.specs.Parts.{mapped}

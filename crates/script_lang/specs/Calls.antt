@@ -7,10 +7,10 @@ use Rattle.delf_model.specs.declared.ids.JobName.{JobName}
 use Rattle.delf_model.specs.declared.ids.JobName.TheVariants.{Named, Expiry}
 use Rattle.delf_model.specs.declared.schema.Schema.{Schema}
 use Rattle.schema_lang.specs.declared.line.Word.{Word}
-use Rattle.schema_lang.specs.declared.line.Word.TheVariants.{Plain, Payload}
+use Rattle.schema_lang.specs.declared.line.Word.TheVariants.{Payload}
 use Rattle.schema_lang.specs.Rows.{word_text}
 use Rattle.script_lang.specs.declared.fault.Wrong.{Wrong}
-use Rattle.script_lang.specs.declared.fault.Wrong.TheVariants.{Malformed, OutOfRange, Unknown}
+use Rattle.script_lang.specs.declared.fault.Wrong.TheVariants.{Malformed}
 use Rattle.script_lang.specs.Parts.{both, mapped, id_part, job_part, type_part, edge_part}
 
 -- `create ID TYPE`, with a payload or without

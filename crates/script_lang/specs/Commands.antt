@@ -3,12 +3,12 @@ use Rattle.std.specs.Prelude.{ℕ, ◌&&◌, Bool, true, false, Option, Some, No
 use Rattle.std.specs.Str.{bytes_eq}
 use Rattle.delf_model.specs.declared.call.Call.{Call}
 use Rattle.delf_model.specs.declared.script.Command.{Command}
-use Rattle.delf_model.specs.declared.script.Command.TheVariants.{Submit, Work, Tick, Get, Show, Job, Jobs, Report, Fail, Crash, Par}
+use Rattle.delf_model.specs.declared.script.Command.TheVariants.{Submit, Work, Tick, Get, Show, Job, Jobs, Report, Fail, Crash}
 use Rattle.delf_model.specs.declared.schema.Schema.{Schema}
 use Rattle.schema_lang.specs.declared.line.Word.{Word}
 use Rattle.schema_lang.specs.Rows.{word_text}
 use Rattle.script_lang.specs.declared.fault.Wrong.{Wrong}
-use Rattle.script_lang.specs.declared.fault.Wrong.TheVariants.{Malformed, OutOfRange, Unknown}
+use Rattle.script_lang.specs.declared.fault.Wrong.TheVariants.{Malformed}
 use Rattle.script_lang.specs.declared.command.ScriptLine.{ScriptLine}
 use Rattle.script_lang.specs.declared.command.ScriptLine.TheVariants.{Serial, Block}
 use Rattle.script_lang.specs.declared.command.BlockHead.{BlockHead}

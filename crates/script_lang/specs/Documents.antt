@@ -1,9 +1,8 @@
 -- A document: its schema and its script, or the first fault of its bytes, the check of the schema apart.
-use Rattle.std.specs.Prelude.{◌≡◌, ℕ, Result, Ok, Err, List, [], ◌∷◌, length, nat_lt, if◌then◌else◌, codes}
+use Rattle.std.specs.Prelude.{◌≡◌, ℕ, Result, Ok, Err, List, length, nat_lt, if◌then◌else◌, codes}
 use Rattle.std.specs.Str.Lines.{lines}
 use Rattle.delf_model.specs.declared.script.Command.{Command}
 use Rattle.delf_model.specs.declared.schema.Schema.{Schema}
-use Rattle.schema_lang.specs.declared.why.Why.{Why}
 use Rattle.schema_lang.specs.declared.fault.SchemaFault.{SchemaFault}
 use Rattle.schema_lang.specs.declared.fault.SchemaFault.TheVariants as part_fault
 use Rattle.schema_lang.specs.Grammar as schema_part

@@ -1,7 +1,6 @@
 -- The script that is made to a size: groups of one user and three photos that point at each other.
 use Rattle.std.specs.Prelude.{ℕ, ◌+◌, ◌*◌, ◌/◌, ◌%◌, Bool, true, ◌==◌, List, [], ◌∷◌, ◌++◌, map, filter, if◌then◌else◌, codes}
 use Rattle.std.specs.List.{flat_map, range_with_len}
-use Rattle.delf_model.specs.declared.call.Call.{Call}
 use Rattle.delf_model.specs.declared.call.Call.TheVariants.{Create, Link, Delete, Restore}
 use Rattle.delf_model.specs.declared.ids.JobName.TheVariants.{Named}
 use Rattle.delf_model.specs.declared.schema.ObjectRule.{ObjectRule}

@@ -1,5 +1,5 @@
 -- What a word means at its place in a line, and which fault of a line comes first.
-use Rattle.std.specs.Prelude.{◌≡◌, ℕ, Result, Ok, Err, List, [], ◌∷◌, length, nat_lt, if◌then◌else◌}
+use Rattle.std.specs.Prelude.{◌≡◌, ℕ, Result, Ok, Err, List, length, nat_lt, if◌then◌else◌}
 use Rattle.std.specs.List.{position_or_len}
 use Rattle.std.specs.Str.{bytes_eq}
 use Rattle.delf_model.specs.declared.schema.Schema.{Schema}

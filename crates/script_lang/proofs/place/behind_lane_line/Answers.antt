@@ -1,5 +1,4 @@
 use Rattle.std.proofs.Common.{◌≡◌}
-use Rattle.std.specs.List.{All}
 use Rattle.std.proofs.lemmas.List.Elements.{All-same}
 use Rattle.script_lang.specs.declared.block.LaneLine.TheVariants.{Within}
 use Rattle.script_lang.specs.TypeNumbers.{CommandNames}
