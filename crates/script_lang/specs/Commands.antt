@@ -52,9 +52,13 @@ abbrev pub par_line : List Word → Result BlockHead Wrong
 par_line [] = Err Malformed
 par_line (word ∷ more) = if bytes_eq (word_text word) (codes "quiet") then block_head true more else block_head false (word ∷ more)
 
-abbrev pub other_line : List ℕ → List Word → Result ScriptLine Wrong
-other_line keyword words =
-    if bytes_eq keyword (codes "par") then mapped (λ head. Block head) (par_line words) else mapped (λ command. Serial command) (serial_line keyword words)
+-- where blocks are not served their first line fits no line
+abbrev pub opening_line : Bool → List Word → Result ScriptLine Wrong
+opening_line blocks words = if blocks then mapped (λ head. Block head) (par_line words) else Err Malformed
+
+abbrev pub other_line : Bool → List ℕ → List Word → Result ScriptLine Wrong
+other_line blocks keyword words =
+    if bytes_eq keyword (codes "par") then opening_line blocks words else mapped (λ command. Serial command) (serial_line keyword words)
 
 abbrev pub submitted_or : Result (Option Call) Wrong → Result ScriptLine Wrong → Result ScriptLine Wrong
 submitted_or (Ok (Some call)) other = Ok (Serial (Submit call))
@@ -62,6 +66,7 @@ submitted_or (Ok None) other = other
 submitted_or (Err wrong) other = Err wrong
 
 -- a line outside of a block
-unfoldable pub script_line : Schema → List Word → Result ScriptLine Wrong
-script_line schema [] = Err Malformed
-script_line schema (keyword ∷ words) = submitted_or (call_line schema (word_text keyword) words) (other_line (word_text keyword) words)
+unfoldable pub script_line : Schema → Bool → List Word → Result ScriptLine Wrong
+script_line schema blocks [] = Err Malformed
+script_line schema blocks (keyword ∷ words) =
+    submitted_or (call_line schema (word_text keyword) words) (other_line blocks (word_text keyword) words)

@@ -1,5 +1,5 @@
 -- A document: its schema and its script, or the first fault of its bytes, the check of the schema apart.
-use Rattle.std.specs.Prelude.{◌≡◌, ℕ, Result, Ok, Err, List, length, nat_lt, if◌then◌else◌, codes}
+use Rattle.std.specs.Prelude.{◌≡◌, ℕ, true, Result, Ok, Err, List, length, nat_lt, if◌then◌else◌, codes}
 use Rattle.std.specs.Str.Lines.{lines}
 use Rattle.delf_model.specs.declared.script.Command.{Command}
 use Rattle.delf_model.specs.declared.schema.Schema.{Schema}
@@ -20,7 +20,7 @@ with_script schema (Ok script) = Ok (schema, script)
 with_script schema (Err fault) = Err fault
 
 abbrev pub behind_part : Result schema_part.Part schema_part.Fault → Result (Schema × List Command) Fault
-behind_part (Ok part) = with_script part.schema (script_of part.schema part.rest part.next)
+behind_part (Ok part) = with_script part.schema (script_of part.schema true part.rest part.next)
 behind_part (Err fault) = Err (schema_fault fault)
 
 -- what these bytes spell: a document has at most 16,777,216 bytes

@@ -74,23 +74,23 @@ behind_lane_line commands block (Ok End) =
 behind_lane_line commands block (Err wrong) = Err wrong
 
 -- what the words of a line say at their place, behind these commands
-abbrev pub said_at : Schema → List Command → Place → List Word → Result Reading Wrong
-said_at schema commands Outside words = behind_script_line commands (script_line schema words)
-said_at schema commands (Opened head) words = behind_head commands head (is_lane_line words)
-said_at schema commands (InLane block) words = behind_lane_line commands block (lane_line schema words)
+abbrev pub said_at : Schema → Bool → List Command → Place → List Word → Result Reading Wrong
+said_at schema blocks commands Outside words = behind_script_line commands (script_line schema blocks words)
+said_at schema blocks commands (Opened head) words = behind_head commands head (is_lane_line words)
+said_at schema blocks commands (InLane block) words = behind_lane_line commands block (lane_line schema words)
 
-unfoldable pub behind_words : Schema → Reading → List Word → Result Reading Wrong
-behind_words schema reading words = said_at schema reading.commands reading.place words
+unfoldable pub behind_words : Schema → Bool → Reading → List Word → Result Reading Wrong
+behind_words schema blocks reading words = said_at schema blocks reading.commands reading.place words
 
 abbrev pub at_line : {A : Type 0} → ℕ → Result A Wrong → Result A Fault
 at_line number (Ok x) = Ok x
 at_line number (Err wrong) = Err (record { line = number; text = text_of wrong })
 
 -- what was read behind a line: a skipped one says nothing, and one with a malformed payload fits no line
-unfoldable pub behind_line : Schema → ℕ → Reading → Line → Result Reading Fault
-behind_line schema number reading Skipped = Ok reading
-behind_line schema number reading Faulty = at_line number (Err Malformed)
-behind_line schema number reading (Words words) = at_line number (behind_words schema reading words)
+unfoldable pub behind_line : Schema → Bool → ℕ → Reading → Line → Result Reading Fault
+behind_line schema blocks number reading Skipped = Ok reading
+behind_line schema blocks number reading Faulty = at_line number (Err Malformed)
+behind_line schema blocks number reading (Words words) = at_line number (behind_words schema blocks reading words)
 
 -- where the lines end nothing may be owed: each block has its `end`
 abbrev pub at_the_end : ℕ → List Command → Place → Result (List Command) Fault
@@ -104,14 +104,14 @@ abbrev pub ◌>>=◌ : {A B : Type 0} → Result A Fault → (A → Result B Fau
 (Err fault) >>= f = Err fault
 
 -- the commands of these lines, the first of which has this number, behind what was read so far
-unfoldable pub script_from : Schema → List (List ℕ) → ℕ → Reading → Result (List Command) Fault
-script_from schema [] number reading = at_the_end number reading.commands reading.place
-script_from schema (line ∷ rest) number reading =
-    behind_line schema number reading (line_of line) >>= script_from schema rest (line_after number)
+unfoldable pub script_from : Schema → Bool → List (List ℕ) → ℕ → Reading → Result (List Command) Fault
+script_from schema blocks [] number reading = at_the_end number reading.commands reading.place
+script_from schema blocks (line ∷ rest) number reading =
+    behind_line schema blocks number reading (line_of line) >>= script_from schema blocks rest (line_after number)
 
 abbrev pub nothing_read : Reading
 nothing_read = record { commands = []; place = Outside }
 
--- the script that these lines spell under a schema, the first of which has this number
-abbrev pub script_of : Schema → List (List ℕ) → ℕ → Result (List Command) Fault
-script_of schema script first = script_from schema script first nothing_read
+-- the script that these lines spell under a schema, with blocks or without; the first line has this number
+abbrev pub script_of : Schema → Bool → List (List ℕ) → ℕ → Result (List Command) Fault
+script_of schema blocks script first = script_from schema blocks script first nothing_read

@@ -2,7 +2,7 @@ ghost use Rattle.std.specs.Prelude.{◌≡◌, IfOk};
 ghost use Rattle.delf_model.specs.declared.schema.Schema.{Schema};
 ghost use Rattle.schema_lang.specs.Spelling.{IsSpellable};
 ghost use Rattle.script_lang.specs.Parts.{Reads};
-ghost use Rattle.script_lang.specs.Commands.{nothing_more, one_number, serial_line, block_head, par_line, other_line, script_line};
+ghost use Rattle.script_lang.specs.Commands.{nothing_more, one_number, serial_line, block_head, par_line, opening_line, other_line, script_line};
 ghost use Rattle.script_lang.specs.TypeNumbers.{CommandNames};
 ghost use Rattle.script_lang.specs.Lines.{ScriptLineNames};
 
@@ -143,12 +143,23 @@ fn read_par(words: &[Word]) -> Result<BlockHead, Wrong>
     }
 }
 
-fn read_other(keyword: &[u8], words: &[Word]) -> Result<ScriptLine, Wrong>
-    ensures line { result ≡ other_line keyword.now words.now }
+// The first line of a block, where blocks are served.
+fn read_opening(blocks: bool, words: &[Word]) -> Result<ScriptLine, Wrong>
+    ensures line { result ≡ opening_line blocks words.now }
+    ensures names { (schema : Schema) → IfOk result (ScriptLineNames schema) }
+{
+    if !blocks {
+        return Err(Wrong::Malformed);
+    }
+    Ok(ScriptLine::Block(read_par(words)?))
+}
+
+fn read_other(blocks: bool, keyword: &[u8], words: &[Word]) -> Result<ScriptLine, Wrong>
+    ensures line { result ≡ other_line blocks keyword.now words.now }
     ensures names { (schema : Schema) → IfOk result (ScriptLineNames schema) }
 {
     if keyword == b"par".as_slice() {
-        return Ok(ScriptLine::Block(read_par(words)?));
+        return read_opening(blocks, words);
     }
     Ok(ScriptLine::Serial(read_serial(keyword, words)?))
 }
@@ -158,10 +169,11 @@ fn read_other(keyword: &[u8], words: &[Word]) -> Result<ScriptLine, Wrong>
 pub fn read_script_line(
     alloc: Global,
     schema: &Schema,
+    blocks: bool,
     words: &[Word],
 ) -> Result<ScriptLine, LineFault>
     requires { IsSpellable schema.now }
-    ensures line { Reads result (script_line schema.now words.now) }
+    ensures line { Reads result (script_line schema.now blocks words.now) }
     ensures names { IfOk result (ScriptLineNames schema.now) }
 {
     let [keyword, more @ ..] = words else {
@@ -169,6 +181,6 @@ pub fn read_script_line(
     };
     match read_call(alloc, schema, text(keyword), more)? {
         Some(call) => Ok(ScriptLine::Serial(Command::Submit(call))),
-        None => Ok(read_other(text(keyword), more)?),
+        None => Ok(read_other(blocks, text(keyword), more)?),
     }
 }

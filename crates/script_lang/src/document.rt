@@ -49,6 +49,6 @@ pub fn parse_document(alloc: Global, bytes: &[u8]) -> Result<(Schema, Script), D
         Ok(part) => part,
         Err(fault) => return Err(told_fault(alloc, fault)),
     };
-    let script = parse_script(alloc, &part.schema, part.next, part.rest)?;
+    let script = parse_script(alloc, &part.schema, true, part.next, part.rest)?;
     Ok((part.schema, script))
 }

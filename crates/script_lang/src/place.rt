@@ -46,15 +46,16 @@ pub struct Reading {
 fn behind_script_line(
     alloc: Global,
     schema: &Schema,
+    blocks: bool,
     mut commands: Script,
     words: &[Word],
 ) -> Result<Reading, LineFault>
     requires spellable { IsSpellable schema.now }
     requires names { All (CommandNames schema.now) commands }
-    ensures reading { Reads result (behind_script_line commands (script_line schema.now words.now)) }
+    ensures reading { Reads result (behind_script_line commands (script_line schema.now blocks words.now)) }
     ensures names { IfOk result (ReadingNames schema.now) }
 {
-    match read_script_line(alloc, schema, words)? {
+    match read_script_line(alloc, schema, blocks, words)? {
         ScriptLine::Serial(command) => {
             commands.push(command)?;
             Ok(Reading {
@@ -195,17 +196,18 @@ fn behind_lane_line(
 pub fn behind_words(
     alloc: Global,
     schema: &Schema,
+    blocks: bool,
     reading: Reading,
     words: &[Word],
 ) -> Result<Reading, LineFault>
     requires spellable { IsSpellable schema.now }
     requires names { ReadingNames schema.now reading }
-    ensures reading { Reads result (behind_words schema.now reading words.now) }
+    ensures reading { Reads result (behind_words schema.now blocks reading words.now) }
     ensures names { IfOk result (ReadingNames schema.now) }
 {
     let Reading { commands, place } = reading;
     match place {
-        Place::Outside => behind_script_line(alloc, schema, commands, words),
+        Place::Outside => behind_script_line(alloc, schema, blocks, commands, words),
         Place::Opened(head) => Ok(behind_head(alloc, commands, head, is_lane_line(words))?),
         Place::InLane(block) => behind_lane_line(alloc, schema, commands, block, words),
     }

@@ -43,19 +43,20 @@ pub fn wrong_at(alloc: Global, line: u32, wrong: &Wrong) -> DocumentFault
 fn behind_line(
     alloc: Global,
     schema: &Schema,
+    blocks: bool,
     number: u32,
     reading: Reading,
     line: &[u8],
 ) -> Result<Reading, DocumentFault>
     requires spellable { IsSpellable schema.now }
     requires names { ReadingNames schema.now reading }
-    ensures reading { Spells result (behind_line schema.now number reading (line_of line.now)) }
+    ensures reading { Spells result (behind_line schema.now blocks number reading (line_of line.now)) }
     ensures names { IfOk result (ReadingNames schema.now) }
 {
     match read_line(alloc, line)? {
         Line::Skipped => Ok(reading),
         Line::Faulty => Err(wrong_at(alloc, number, &Wrong::Malformed)),
-        Line::Words(words) => match behind_words(alloc, schema, reading, words.as_slice()) {
+        Line::Words(words) => match behind_words(alloc, schema, blocks, reading, words.as_slice()) {
             Ok(reading) => Ok(reading),
             Err(LineFault::Bad(wrong)) => Err(wrong_at(alloc, number, &wrong)),
             Err(LineFault::OutOfMemory) => Err(DocumentFault::OutOfMemory),
@@ -76,15 +77,17 @@ fn at_the_end(alloc: Global, number: u32, reading: Reading) -> Result<Script, Do
 }
 
 /// The commands of a script, which are the lines behind the schema part of a document; the first of them has this
-/// number. The schema is the one of that part, and its check is not made here.
+/// number. The schema is the one of that part, and its check is not made here. Without `blocks` a `par` line fits no
+/// line, as for who runs a script on one thread.
 pub fn parse_script(
     alloc: Global,
     schema: &Schema,
+    blocks: bool,
     first: u32,
     bytes: &[u8],
 ) -> Result<Script, DocumentFault>
     requires { IsSpellable schema.now }
-    ensures script { Spells result (script_of schema.now (lines bytes.now) first) }
+    ensures script { Spells result (script_of schema.now blocks (lines bytes.now) first) }
     ensures names { IfOk result (All (CommandNames schema.now)) }
 {
     let mut reading = Reading {
@@ -94,7 +97,7 @@ pub fn parse_script(
     let mut number = first;
     let mut rest = bytes;
     while let Some((line, after)) = split_line(rest) {
-        reading = match behind_line(alloc, schema, number, reading, line) {
+        reading = match behind_line(alloc, schema, blocks, number, reading, line) {
             Ok(reading) => reading,
             Err(fault) => return Err(fault),
         };

@@ -1,4 +1,4 @@
-use crate::{DocumentFault, generated, parse_document};
+use crate::{DocumentFault, generated, parse_document, parse_script};
 use delf_model::Command;
 use std::alloc::Global;
 use std::process::Abort;
@@ -153,6 +153,23 @@ fn eight_objects(rt: HostRuntime) {
                     assert_eq!(rt; lanes[0].commands.len(), 17);
                     assert_eq!(rt; lanes[1].commands.len(), 16);
                     assert_eq!(rt; lanes[2].commands.len(), 0);
+                }
+                _ => assert!(rt; false),
+            }
+        }
+        Err(_) => assert!(rt; false),
+    }
+}
+
+#[test]
+fn a_script_without_blocks(rt: HostRuntime) {
+    let alloc = rt.alloc();
+    match parse_document(alloc, b"schema 1\nwindow 0\n") {
+        Ok((schema, _)) => {
+            match parse_script(alloc, &schema, false, 3, b"show\npar workers 99 turns 1\n") {
+                Err(DocumentFault::Bad { line, text }) => {
+                    assert_eq!(rt; line, 4);
+                    assert!(rt; text.as_slice() == b"malformed".as_slice());
                 }
                 _ => assert!(rt; false),
             }

@@ -8,15 +8,15 @@ use Rattle.script_lang.proofs.script.parse_script.Goals as goal
 
 pub returns-in-Err-clause-script : goal.returns-in-Err-clause-script
 returns-in-Err-clause-script c =
-    script_fails c.args.schema.now (lines c.loop-line.rest.now) c.loop-line.number c.loop-line.reading
-    (script_of c.args.schema.now (lines c.args.bytes.now) c.args.first) c.loop-line.invariant.same c.in-Some.line.now
+    script_fails c.args.schema.now c.args.blocks (lines c.loop-line.rest.now) c.loop-line.number c.loop-line.reading
+    (script_of c.args.schema.now c.args.blocks (lines c.args.bytes.now) c.args.first) c.loop-line.invariant.same c.in-Some.line.now
     (lines c.in-Some.after.now) c.in-Some.ensures.lines c.in-Err.fault c.in-Err.ensures.reading
 
 pub loop-line-preserved : goal.loop-line-preserved
 loop-line-preserved c = record {
   same = rw c.saturating_add-number.ensures
-      (script_more c.args.schema.now (lines c.loop-line.rest.now) c.loop-line.number c.loop-line.reading
-      (script_of c.args.schema.now (lines c.args.bytes.now) c.args.first) c.loop-line.invariant.same c.in-Some.line.now
+      (script_more c.args.schema.now c.args.blocks (lines c.loop-line.rest.now) c.loop-line.number c.loop-line.reading
+      (script_of c.args.schema.now c.args.blocks (lines c.args.bytes.now) c.args.first) c.loop-line.invariant.same c.in-Some.line.now
       (lines c.in-Some.after.now) c.in-Some.ensures.lines c.in-Ok.reading c.in-Ok.ensures.reading);
   names = c.in-Ok.ensures.names;
 }
@@ -24,6 +24,6 @@ loop-line-preserved c = record {
 pub returns-clause-script : goal.returns-clause-script
 returns-clause-script c =
     subst (λ (read : Result (List Command) Fault). Spells c.at_the_end.result read)
-    (script_ends c.args.schema.now (lines c.loop-line.rest.now) c.loop-line.number c.loop-line.reading
-    (script_of c.args.schema.now (lines c.args.bytes.now) c.args.first) c.loop-line.invariant.same c.in_default.ensures.lines)
+    (script_ends c.args.schema.now c.args.blocks (lines c.loop-line.rest.now) c.loop-line.number c.loop-line.reading
+    (script_of c.args.schema.now c.args.blocks (lines c.args.bytes.now) c.args.first) c.loop-line.invariant.same c.in_default.ensures.lines)
     c.at_the_end.ensures

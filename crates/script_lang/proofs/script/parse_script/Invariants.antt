@@ -6,7 +6,7 @@ use Rattle.script_lang.proofs.script.parse_script.Given as goal
 
 abbrev pub invariant-loop-line : goal.invariant-loop-line
 invariant-loop-line l = record {
-  same : script_from l.schema (lines l.rest) l.number l.reading ≡ script_of l.schema (lines l.bytes) l.first;
+  same : script_from l.schema l.blocks (lines l.rest) l.number l.reading ≡ script_of l.schema l.blocks (lines l.bytes) l.first;
   names : ReadingNames l.schema l.reading;
 }
 
