@@ -7,3 +7,4 @@ pub mod Documents
 pub mod TypeNumbers
 pub mod Lines
 pub mod Generated
+pub mod Forms
