@@ -18,3 +18,5 @@ pub mod Calls
 pub mod Begins
 pub mod Erasures
 pub mod Puts
+pub mod FreeSteps
+pub mod NextSteps

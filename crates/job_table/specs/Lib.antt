@@ -1,5 +1,6 @@
 pub mod Apart
 pub mod Fits
+pub mod Free
 pub mod Items
 pub mod Next
 pub mod Notes

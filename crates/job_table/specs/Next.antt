@@ -42,3 +42,8 @@ IsFreeNext s moment held (Put job i) = IsFree s moment held (what.Put job i)
 IsFreeNext s moment held (Purge job) = IsFree s moment held (what.Purge job)
 IsFreeNext s moment held Idle = NoneLegal s moment
 IsFreeNext s moment held (Held n) = (n ≡ length held) × AllHeld s moment held
+
+-- the first step of the serial order is legal, and it is held
+abbrev pub IsFirstHeld : State → ℕ → List What → Type 0
+IsFirstHeld s moment held =
+    (step : What) × (first_step s moment ≡ Some step) × (is_legal_step s moment step ≡ true) × (is_held held step ≡ true)

@@ -3,6 +3,7 @@
 
 mod apply;
 mod claims;
+mod free;
 mod items;
 mod jobs;
 mod next;

@@ -1,4 +1,4 @@
-ghost use Rattle.std.specs.Prelude.{◌≡◌, ◌+◌, ◌<◌, ◌≤◌, ◌^◌, ◌++◌, ◌∷◌, [], None, cond, nat_eq, OnOk, length, ℕ, IsTrue};
+ghost use Rattle.std.specs.Prelude.{◌≡◌, ◌+◌, ◌<◌, ◌≤◌, ◌^◌, ◌++◌, ◌∷◌, [], None, cond, nat_eq, OnOk, length, map, ℕ, IsTrue};
 ghost use Rattle.std.specs.List.{position};
 ghost use Rattle.job_table.specs.Parts.{is_owned_id, pair_of};
 ghost use Rattle.job_table.specs.Serial.{least_among, with_pair};
@@ -85,6 +85,14 @@ impl Owners {
             }
             None => {}
         }
+    }
+
+    /// The owned objects with their jobs.
+    pub fn pairs(&self) -> &[Owned]
+        ensures list { map pair_of result.now ≡ self.now.list }
+        ensures apart { IsTrue (are_apart_pairs self.now.list) }
+    {
+        &self.pairs
     }
 
     /// The least id that the job owns.

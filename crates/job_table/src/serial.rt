@@ -114,7 +114,7 @@ fn cut_or_erase<G: GraphStore>(graph: &G, job: Job, id: ObjectId) -> What
     }
 }
 
-fn cut(job: Job, row: &EdgeRow) -> What
+pub(crate) fn cut(job: Job, row: &EdgeRow) -> What
     ensures { result ≡ What.Cut job row.now.key.edge row.now.key.from row.now.key.to }
 {
     What::Cut {
@@ -188,7 +188,7 @@ impl JobTable {
         }
     }
 
-    fn first_purge(&self, window: u32, moment: Moment) -> Option<What>
+    pub(crate) fn first_purge(&self, window: u32, moment: Moment) -> Option<What>
         ensures { (s : State) → IsTableOf s self.now → window ≡ s.rules.window → result ≡ purge_of_state s moment }
     {
         let rows = self.jobs.rows();
@@ -198,7 +198,7 @@ impl JobTable {
         }
     }
 
-    fn first_expiry<G: GraphStore>(&self, graph: &G, moment: Moment) -> Option<What>
+    pub(crate) fn first_expiry<G: GraphStore>(&self, graph: &G, moment: Moment) -> Option<What>
         ensures { (s : State) → IsTableOf s self.now → G.graph graph.now ≡ s.graph → result ≡ expiry_of_state s moment }
     {
         let mut after = None;

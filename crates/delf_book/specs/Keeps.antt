@@ -1,0 +1,13 @@
+use Rattle.std.specs.Prelude.{ℕ, Bool, List}
+use Rattle.delf_model.specs.declared.entry.Entry.{Entry}
+use Rattle.delf_model.specs.RuleSet.{RuleSet}
+use Rattle.delf_model.specs.Graph.{Graph}
+use Rattle.delf_model.specs.State.{after}
+use Rattle.delf_model.specs.Legal.{Legal}
+use Rattle.job_table.specs.Table.{Table, IsTableOf, IsGraphOf}
+
+-- the history is legal, and table and graph are those of the state after it
+pub record KeepsState (rules : RuleSet) (history : List Entry) (table : Table) (stored : Graph) (refs : ℕ → Bool) : Type 0 where
+  pub is_legal : Legal rules history
+  pub is_table : IsTableOf (after rules history) table
+  pub is_graph : IsGraphOf (after rules history) stored refs rules

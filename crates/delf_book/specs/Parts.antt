@@ -1,0 +1,7 @@
+use Rattle.std.specs.Prelude.{ℕ, List}
+use Rattle.delf_model.specs.declared.entry.Entry.{Entry}
+
+-- a list with the number of further elements that need no memory
+pub record EntryPart : Type 0 where
+  pub list : List Entry
+  pub spare : ℕ

@@ -1,0 +1,233 @@
+ghost use Rattle.std.specs.Prelude.{◌≡◌, ◌+◌, ◌≤◌, ℕ, length, nat_eq, [], true, OnOk, IsTrue};
+ghost use Rattle.delf_model.specs.declared.entry.What.{What};
+ghost use Rattle.delf_model.specs.RuleSet.{is_refcount};
+ghost use Rattle.delf_model.specs.Graph.{empty_graph};
+ghost use Rattle.delf_model.specs.State.{owner as owner_of, find_job};
+ghost use Rattle.delf_model.specs.Legal.{Legal, used, owed, is_legal, greatest_moment};
+ghost use Rattle.delf_model.specs.Order.{first_step};
+ghost use Rattle.delf_model.specs.Report.{status as status_of, job_at as line_at, listed_at as listed_of, items_of};
+ghost use Rattle.delf_model.specs.Sound.{FirstIsLegal};
+ghost use Rattle.job_table.specs.Table.{IsTableOf, IsGraphOf, item_at as item_of, top_seat as greatest_seat};
+ghost use Rattle.delf_book.specs.Ledgers.{state_of, is_ready, found, IsSame, HasEntered};
+
+use crate::edit::{carry_out, edit_of, make_room};
+use crate::entries::Entries;
+use delf_model::{
+    Entry, GraphStore, Item, Job, JobLine, JobName, Listed, Moment, ObjectId, ObjectRow, Rules,
+    Status, What,
+};
+use job_table::JobTable;
+use order_laws::first_step_is_legal;
+use std::alloc::{AllocError, Global};
+use std::marker::Model;
+
+/// A book without its disk: the rules, a legal history, and the graph and the table of the state after it.
+#[derive(Drop)]
+pub struct Ledger<G: GraphStore> {
+    rules: Rules,
+    graph: G,
+    jobs: JobTable,
+    history: Entries,
+}
+
+impl<G: GraphStore> Model for Ledger<G> {
+    ghost use Rattle.std.specs.Prelude.{min};
+    ghost use Rattle.delf_book.specs.Ledgers.{Ledgered};
+    ghost use Rattle.delf_book.specs.Keeps.{KeepsState};
+
+    ghost Value = { Ledgered G };
+
+    ghost view = { λ l. record { rules = l.rules; history = l.history.list; store = l.graph; held = l.jobs.held; spare = min l.jobs.spare l.history.spare } };
+
+    ghost invariant = { λ l. KeepsState l.rules l.history.list l.jobs (G.graph l.graph) (G.counts l.graph) };
+}
+
+impl<G: GraphStore> Ledger<G> {
+    /// The ledger of the blank history over a blank graph. Takes no memory.
+    pub fn new(alloc: Global, rules: Rules, graph: G) -> Ledger<G>
+        requires blank { G.graph graph ≡ empty_graph }
+        requires counts { (edge : ℕ) → G.counts graph edge ≡ is_refcount rules edge }
+        ensures rules { result.rules ≡ rules }
+        ensures history { result.history ≡ [] }
+        ensures store { result.store ≡ graph }
+        ensures held { result.held ≡ [] }
+    {
+        Ledger {
+            rules,
+            graph,
+            jobs: JobTable::empty(alloc),
+            history: Entries::new(alloc),
+        }
+    }
+
+    /// The rules.
+    pub fn rules(&self) -> &Rules
+        ensures { result.now ≡ self.now.rules }
+    {
+        &self.rules
+    }
+
+    /// The graph after the history.
+    pub fn graph(&self) -> &G
+        ensures store { result.now ≡ self.now.store }
+        ensures of { IsGraphOf (state_of self.now) (G.graph result.now) (G.counts result.now) self.now.rules }
+    {
+        &self.graph
+    }
+
+    /// The table of the state after the history.
+    fn jobs(&self) -> &JobTable
+        ensures { IsTableOf (state_of self.now) result.now }
+    {
+        &self.jobs
+    }
+
+    /// The length of the history.
+    pub fn len(&self) -> u32
+        ensures value { result ≡ length self.now.history }
+        ensures state { result ≡ (state_of self.now).len }
+        ensures below { result ≤ 500000 }
+        ensures legal { Legal self.now.rules self.now.history }
+    {
+        self.jobs.len()
+    }
+
+    /// Whether the history is blank.
+    pub fn is_empty(&self) -> bool
+        ensures { result ≡ nat_eq (length self.now.history) 0 }
+    {
+        self.len() == 0
+    }
+
+    /// The moment of the last entry, 0 where there is none.
+    pub fn moment(&self) -> Moment
+        ensures value { result ≡ (state_of self.now).moment }
+        ensures within { result ≤ greatest_moment }
+    {
+        self.jobs.moment()
+    }
+
+    /// The number of entries, and of those that may still be owed.
+    pub fn room(&self) -> (u32, u32)
+        ensures value { result ≡ (used (state_of self.now), owed (state_of self.now)) }
+        ensures below { result.0 + result.1 ≤ 500000 }
+    {
+        self.jobs().room()
+    }
+
+    /// The object with its owner.
+    pub fn get(&self, id: ObjectId) -> Option<(ObjectRow, Option<Job>)>
+        ensures { result ≡ found (state_of self.now) id }
+    {
+        match self.graph().object(id) {
+            Some(row) => Some((row, self.owner(id))),
+            None => None,
+        }
+    }
+
+    /// The job that owns the object.
+    pub fn owner(&self, id: ObjectId) -> Option<Job>
+        ensures { result ≡ owner_of (state_of self.now) id }
+    {
+        self.jobs().owner(id)
+    }
+
+    /// The job that the name means: the latest one that has it.
+    pub fn find(&self, name: JobName) -> Option<Job>
+        ensures { result ≡ find_job (state_of self.now).jobs name }
+    {
+        self.jobs().find(name)
+    }
+
+    /// The status of the job that the name means.
+    pub fn status(&self, name: JobName) -> Status
+        ensures { result ≡ status_of (state_of self.now) name }
+    {
+        self.jobs().status(name)
+    }
+
+    /// The line of the job at this place, by age.
+    pub fn job_at(&self, i: u32) -> Option<JobLine>
+        ensures { result ≡ line_at (state_of self.now) i }
+    {
+        self.jobs().job_at(i)
+    }
+
+    /// The listed item of the job at this place, by falling item number.
+    pub fn listed_at(&self, job: Job, i: u32) -> Option<Listed>
+        ensures { result ≡ listed_of (state_of self.now) job i }
+    {
+        self.jobs().listed_at(job, i)
+    }
+
+    /// The item with this number.
+    pub fn item_at(&self, i: u32) -> Option<Item>
+        ensures { result ≡ item_of (state_of self.now) i }
+    {
+        self.jobs().item_at(i)
+    }
+
+    /// The number of items that the job logged.
+    pub fn items(&self, job: Job) -> u32
+        ensures { result ≡ items_of (state_of self.now) job }
+    {
+        self.jobs().items(job)
+    }
+
+    /// The greatest seat of a tag, 0 where there is none.
+    pub fn top_seat(&self) -> u32
+        ensures { result ≡ greatest_seat (state_of self.now) }
+    {
+        self.jobs().top_seat()
+    }
+
+    /// The first legal step of the serial order at this moment, whatever steps are held; None where no step is legal.
+    pub fn first_step(&self, moment: Moment) -> Option<What>
+        ensures step { result ≡ first_step (state_of self.now) moment }
+        ensures legal { (state_of self.now).moment ≤ moment → moment ≤ greatest_moment → FirstIsLegal (state_of self.now) moment }
+    {
+        first_step_is_legal();
+        self.jobs.first(&self.graph, &self.rules, moment)
+    }
+
+    /// Makes room for `n` further entries and held steps together, but for what they put into the graph. The only error
+    /// is want of memory.
+    pub fn reserve(&mut self, n: u32) -> Result<(), AllocError>
+        ensures ok { OnOk result (n ≤ self.new.spare) }
+        ensures same { IsSame self.old self.new }
+        ensures store { self.new.store ≡ self.old.store }
+    {
+        self.jobs.reserve(n)?;
+        self.history.reserve(n)?;
+        Ok(())
+    }
+
+    /// Makes room for one entry of this kind. The only error is want of memory; whatever it answers, what was ready
+    /// stays ready.
+    pub fn make_ready(&mut self, what: &What) -> Result<(), AllocError>
+        ensures ok { OnOk result (IsTrue (is_ready (G.is_ready_object self.new.store) (G.is_ready_edge self.new.store) self.new what.now)) }
+        ensures same { IsSame self.old self.new }
+        ensures ready { (other : What) → IsTrue (is_ready (G.is_ready_object self.old.store) (G.is_ready_edge self.old.store) self.old other) → IsTrue (is_ready (G.is_ready_object self.new.store) (G.is_ready_edge self.new.store) self.new other) }
+    {
+        self.reserve(1)?;
+        // What is put has its id or its key from the kind alone, so any moment serves.
+        let entry = Entry {
+            moment: 0,
+            what: *what,
+        };
+        let edit = edit_of(&self.graph, &self.jobs, &self.rules, &entry);
+        make_room(&mut self.graph, &edit)
+    }
+
+    /// Enters a legal entry for which room was made. Takes no memory.
+    pub fn enter(&mut self, entry: &Entry)
+        requires legal { is_legal (state_of self.old) entry.now ≡ true }
+        requires ready { IsTrue (is_ready (G.is_ready_object self.old.store) (G.is_ready_edge self.old.store) self.old entry.now.what) }
+        ensures { HasEntered self.old self.new entry.now }
+    {
+        let edit = edit_of(&self.graph, &self.jobs, &self.rules, entry);
+        self.jobs.apply(&self.graph, &self.rules, entry);
+        self.history.push(entry);
+        carry_out(&mut self.graph, &edit);
+    }
+}

@@ -1,0 +1,4 @@
+pub mod Loops
+pub mod Objects
+pub mod Edges
+pub mod Ends

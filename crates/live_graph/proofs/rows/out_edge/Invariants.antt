@@ -1,0 +1,7 @@
+use Rattle.std.proofs.Common.{◌≡◌, drop}
+use Rattle.std.specs.Prelude.{filter, slice_get}
+use Rattle.delf_model.specs.Graph.{leaves_from}
+use Rattle.live_graph.proofs.rows.out_edge.Given as goal
+
+abbrev pub invariant-loop-row : goal.invariant-loop-row
+invariant-loop-row l = slice_get (filter (leaves_from l.fn.id) l.rows) l.fn.i ≡ slice_get (filter (leaves_from l.fn.id) (drop l.row-index l.rows)) l.left

@@ -1,0 +1,6 @@
+pub mod Members
+pub mod Carriers
+pub mod Rows
+pub mod Items
+pub mod Placed
+pub mod Moves
