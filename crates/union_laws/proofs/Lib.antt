@@ -1,0 +1,4 @@
+pub mod SameGraph
+pub mod Twins
+pub mod Values
+pub mod Union
