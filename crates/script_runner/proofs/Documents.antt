@@ -13,7 +13,7 @@ use Rattle.delf_model.specs.Checked.{IsChecked, IsExpiry, numbered}
 use Rattle.schema_lang.specs.Spelling.{IsSpellable, FitsRule, FitsObject}
 use Rattle.schema_lang.specs.Words.{line_of}
 use Rattle.schema_lang.specs.Grammar.{Part, Fault, part_of}
-use Rattle.script_runner.specs.declared.document.Command.{Command}
+use Rattle.delf_model.specs.declared.script.Command.{Command}
 use Rattle.script_runner.specs.declared.document.Document.{Document}
 use Rattle.script_runner.specs.Documents.{IsDocument, IsNoDocument, spells, commands_of, commands_of_line, both}
 

@@ -5,9 +5,9 @@ use Rattle.std.specs.Prelude.{slice_get}
 use Rattle.delf_model.specs.declared.schema.Schema.{Schema}
 use Rattle.delf_model.specs.declared.call.Refusal.{Refusal}
 use Rattle.delf_model.specs.declared.entry.What.{What}
-use Rattle.script_runner.specs.declared.document.Command.{Command}
+use Rattle.delf_model.specs.declared.script.Command.{Command}
 use Rattle.script_runner.specs.declared.document.Command.TheVariants.{Create, Show}
-use Rattle.script_runner.specs.Stores.{World}
+use Rattle.script_runner.specs.Worlds.{World}
 use Rattle.script_runner.specs.Serial.{after_answer, lines_of, next_world, world_after, text_of}
 use Rattle.script_runner.specs.Outcomes.{IsCut, IsCutScript}
 

@@ -1,5 +1,5 @@
 -- Which bytes are a document, and which words are a command of the program.
-use Rattle.std.specs.Prelude.{◌≡◌, ℕ, ◌≤◌, ◌&&◌, Option, Some, None, Result, Ok, Err, List, [], ◌∷◌, ◌++◌, length, nat_lt, if◌then◌else◌, codes}
+use Rattle.std.specs.Prelude.{◌≡◌, ℕ, ◌≤◌, ◌<◌, ◌&&◌, Option, Some, None, Result, Ok, Err, List, [], ◌∷◌, ◌++◌, length, nat_lt, if◌then◌else◌, codes}
 use Rattle.std.specs.Str.{bytes_eq}
 use Rattle.std.specs.Str.Lines.{lines}
 use Rattle.delf_model.specs.declared.schema.Schema.{Schema}
@@ -14,8 +14,9 @@ use Rattle.schema_lang.specs.Words.{line_of}
 use Rattle.schema_lang.specs.Rows.{word_text}
 use Rattle.schema_lang.specs.Numbers.{number_in}
 use Rattle.schema_lang.specs.Grammar.{Part, Fault, part_of}
-use Rattle.script_runner.specs.declared.document.Command.{Command}
-use Rattle.script_runner.specs.declared.document.Command.TheVariants.{Create, Show}
+use Rattle.delf_model.specs.declared.call.Call.TheVariants.{Create}
+use Rattle.delf_model.specs.declared.script.Command.{Command}
+use Rattle.delf_model.specs.declared.script.Command.TheVariants.{Submit, Show}
 use Rattle.script_runner.specs.declared.document.Document.{Document}
 
 -- the number that a word spells within its bounds
@@ -30,7 +31,14 @@ declared_kind types name = if nat_lt (number_of types name) (length types) then 
 abbrev pub create_of : List ℕ → Option ℕ → Option ℕ → Option Command
 create_of payload None kind = None
 create_of payload (Some id) None = None
-create_of payload (Some id) (Some kind) = Some (Create kind id payload)
+create_of payload (Some id) (Some kind) = Some (Submit (Create kind id payload))
+
+-- a create of one of so many types, or a show
+abbrev pub IsRead : ℕ → Command → Type 0
+IsRead count (Submit (Create kind id payload)) = kind < count
+IsRead count (Submit other) = ⊥
+IsRead count Show = Unit {0}
+IsRead count other = ⊥
 
 -- `create ID TYPE`, with its payload
 abbrev pub created_by : List ObjectType → List ℕ → List ℕ → List ℕ → List ℕ → Option Command

@@ -1,7 +1,7 @@
 pub mod Codes
-pub mod Texts
+pub mod Names
 pub mod Documents
-pub mod Stores
+pub mod Worlds
 pub mod Lines
 pub mod Serial
 pub mod Outcomes

@@ -1,13 +1,15 @@
 -- What a run leaves in the sink, and why it ended, by its status.
 use Rattle.std.specs.Prelude.{◌≡◌, ℕ, ◌<◌, Bool, IsTrue, Option, Some, None, List, [], ◌∷◌, ◌++◌, ◌⊎◌, length, take, slice_get, codes}
 use Rattle.delf_model.specs.declared.schema.Schema.{Schema}
+use Rattle.delf_model.specs.Legal.{Legal}
+use Rattle.delf_model.specs.Sound.{Sound}
 use Rattle.script_runner.specs.declared.status.Status.{Status}
 use Rattle.script_runner.specs.declared.status.Status.TheVariants.{Done, Usage, BadDocument, ReadFault, WriteFault, OutOfMemory}
-use Rattle.script_runner.specs.declared.document.Command.{Command}
+use Rattle.delf_model.specs.declared.script.Command.{Command}
 use Rattle.script_runner.specs.declared.document.Document.{Document}
 use Rattle.script_runner.specs.Documents.{IsDocument, IsNoDocument}
-use Rattle.script_runner.specs.Stores.{World}
-use Rattle.script_runner.specs.Serial.{first_world, world_after, text_of, lines_of}
+use Rattle.script_runner.specs.Worlds.{World, first_world}
+use Rattle.script_runner.specs.Serial.{world_after, text_of, lines_of}
 
 abbrev pub usage_line : List ℕ
 usage_line = codes "usage: delf run [--at N] | check | load N" ++ 10 ∷ []
@@ -25,9 +27,19 @@ pub record IsCutScript (schema : Schema) (w : World) (commands : List Command) (
   pub there : slice_get commands done ≡ Some command
   pub cut : IsCut (before ++ text_of schema w (take done commands)) after (lines_of schema (world_after w (take done commands)) command)
 
+-- the history of a world is legal, and what every legal history is
+pub record HasSound (w : World) : Type 0 where
+  pub legal : Legal w.rules w.history
+  pub sound : Sound w.rules w.history
+
+-- all the text of the commands, and what it tells of their history
+pub record IsWhole (schema : Schema) (w : World) (commands : List Command) (before after : List ℕ) : Type 0 where
+  pub text : after ≡ before ++ text_of schema w commands
+  pub history : HasSound (world_after w commands)
+
 -- the sink after commands from a world on, by the status that they ended with
 abbrev pub ScriptText : Schema → World → List Command → List ℕ → List ℕ → Status → Type 0
-ScriptText schema w commands before after Done = after ≡ before ++ text_of schema w commands
+ScriptText schema w commands before after Done = IsWhole schema w commands before after
 ScriptText schema w commands before after Usage = ⊥
 ScriptText schema w commands before after (BadDocument line) = ⊥
 ScriptText schema w commands before after ReadFault = ⊥

@@ -1,5 +1,5 @@
 -- The serial meaning of a script: the lines of each command in a world, and the next world.
-use Rattle.std.specs.Prelude.{◌≡◌, ℕ, zero, suc, ◌+◌, Bool, true, false, cond, nat_lt, Option, Some, None, Result, Ok, Err, List, [], ◌∷◌, ◌++◌, length, map, flat_map, slice_get, is_some}
+use Rattle.std.specs.Prelude.{ℕ, zero, suc, ◌-◌, Bool, true, false, cond, nat_lt, Option, Some, None, Result, Ok, Err, List, [], ◌∷◌, ◌++◌, length, map, flat_map, slice_get, is_some, IsTrue}
 use Rattle.delf_model.specs.declared.schema.ObjectType.{ObjectType}
 use Rattle.delf_model.specs.declared.schema.EdgeType.{EdgeType}
 use Rattle.delf_model.specs.declared.schema.Schema.{Schema}
@@ -95,24 +95,19 @@ after_answer w asked (Err refused) = w
 abbrev pub next_step : World → Option What
 next_step w = first_step (state_of w) (now_of w)
 
--- how many of so many steps are made, and the world after them
-mutual
-  pub steps_made : ℕ → World → ℕ
-  steps_made zero w = 0
-  steps_made (suc n) w = steps_from n w (next_step w)
+-- the world after a step, the same where there is none
+abbrev pub after_step : World → Option What → World
+after_step w None = w
+after_step w (Some step) = with_entry w step []
 
-  pub steps_from : ℕ → World → Option What → ℕ
-  steps_from n w None = 0
-  steps_from n w (Some step) = suc (steps_made n (with_entry w step []))
+-- the world after so many steps; where no step is left it stays
+unfoldable pub world_worked : ℕ → World → World
+world_worked zero w = w
+world_worked (suc n) w = world_worked n (after_step w (next_step w))
 
-mutual
-  pub world_worked : ℕ → World → World
-  world_worked zero w = w
-  world_worked (suc n) w = worked_from n w (next_step w)
-
-  pub worked_from : ℕ → World → Option What → World
-  worked_from n w None = w
-  worked_from n w (Some step) = world_worked n (with_entry w step [])
+-- how many of so many steps were made: one entry each
+abbrev pub steps_made : ℕ → World → ℕ
+steps_made n w = length (world_worked n w).history - length w.history
 
 abbrev pub work_line : ℕ → ℕ → List ℕ
 work_line asked made = work_text made (cond (nat_lt made asked) Idle All)
@@ -221,3 +216,6 @@ is_served Report = true
 is_served (Fail n) = false
 is_served (Crash pick) = false
 is_served (Par quiet workers turns lanes) = false
+
+abbrev pub IsServed : Command → Type 0
+IsServed command = IsTrue (is_served command)

@@ -5,29 +5,15 @@ ghost use Rattle.std.specs.Str.{bytes_eq};
 ghost use Rattle.delf_model.specs.Checked.{number_of};
 ghost use Rattle.schema_lang.specs.Rows.{word_text};
 ghost use Rattle.schema_lang.specs.Numbers.{number_in};
-ghost use Rattle.script_runner.specs.Documents.{IsDocument, IsNoDocument, commands_of, command_of, created_by, within, declared_kind};
+ghost use Rattle.script_runner.specs.Documents.{IsDocument, IsNoDocument, commands_of, command_of, created_by, within, declared_kind, IsRead};
 ghost use Rattle.script_runner.specs.Lines.{AddsLine, AddsWords};
-ghost use Rattle.script_runner.specs.Stores.{NamesType};
 
-use delf_model::{Bytes, List, ObjectId, ObjectType, Rules, RulesFault, Schema, TypeNo};
+use delf_model::{Bytes, Call, Command, List, ObjectId, ObjectType, Rules, RulesFault, Schema, TypeNo};
 use schema_lang::{Line, SchemaFault, Word, parse_part, read_line, read_number, split_line};
 use std::alloc::{AllocError, Global};
 
 /// The greatest number of bytes of a document.
 pub const DOCUMENT_LIMIT: usize = 16_777_216;
-
-/// A command of a script.
-#[derive(Drop)]
-pub enum Command {
-    /// An object comes into the graph, with this payload, which may be of any length.
-    Create {
-        kind: TypeNo,
-        id: ObjectId,
-        payload: Bytes,
-    },
-    /// The graph is printed.
-    Show,
-}
 
 /// What a document says: a schema with its rules by number, and the commands of its script.
 #[derive(Drop)]
@@ -50,7 +36,7 @@ pub enum DocumentFault {
 pub fn read_document(alloc: Global, bytes: &[u8]) -> Result<Document, DocumentFault>
     ensures document { IfOk result (λ document. IsDocument bytes.now document) }
     ensures bad { result ≡ Err DocumentFault.Bad → IsNoDocument bytes.now }
-    ensures kinds { IfOk result (λ document. All (NamesType (length document.schema.objects)) document.commands) }
+    ensures kinds { IfOk result (λ document. All (IsRead (length document.schema.objects)) document.commands) }
 {
     if bytes.len() > DOCUMENT_LIMIT {
         return Err(DocumentFault::Bad);
@@ -84,7 +70,7 @@ fn read_commands(
 ) -> Result<Option<List<Command>>, AllocError>
     requires { length types.now ≤ 64 }
     ensures meaning { IfOk result (λ read. read ≡ commands_of types.now (lines bytes.now)) }
-    ensures kinds { IfOk result (λ read. IfSome read (λ commands. All (NamesType (length types.now)) commands)) }
+    ensures kinds { IfOk result (λ read. IfSome read (λ commands. All (IsRead (length types.now)) commands)) }
 {
     let mut commands = List::new(alloc);
     let mut rest = bytes;
@@ -152,7 +138,7 @@ fn read_command(
 ) -> Result<Option<Command>, AllocError>
     requires { length types.now ≤ 64 }
     ensures meaning { IfOk result (λ read. read ≡ command_of types.now words.now) }
-    ensures kinds { IfOk result (λ read. IfSome read (NamesType (length types.now))) }
+    ensures kinds { IfOk result (λ read. IfSome read (IsRead (length types.now))) }
 {
     match words {
         [word] if text(word) == b"show".as_slice() => Ok(Some(Command::Show)),
@@ -179,7 +165,7 @@ fn read_create(
 ) -> Result<Option<Command>, AllocError>
     requires { length types.now ≤ 64 }
     ensures meaning { IfOk result (λ read. read ≡ created_by types.now word.now id.now kind.now payload.now) }
-    ensures kinds { IfOk result (λ read. IfSome read (NamesType (length types.now))) }
+    ensures kinds { IfOk result (λ read. IfSome read (IsRead (length types.now))) }
 {
     if word != b"create".as_slice() {
         return Ok(None);
@@ -188,7 +174,7 @@ fn read_create(
         return Ok(None);
     };
     let payload = Bytes::of(alloc, payload)?;
-    Ok(Some(Command::Create { kind, id, payload }))
+    Ok(Some(Command::Submit(Call::Create { kind, id, payload })))
 }
 
 fn read_id(text: &[u8]) -> Option<ObjectId>

@@ -2,11 +2,12 @@ ghost use Rattle.std.specs.Prelude.{◌≡◌, ◌++◌, ◌<◌, ◌≤◌, ◌
 ghost use Rattle.std.specs.List.{All};
 ghost use Rattle.delf_io.specs.Faults.{Rose};
 ghost use Rattle.script_runner.specs.Documents.{start_of};
-ghost use Rattle.script_runner.specs.Stores.{NamesType};
-ghost use Rattle.script_runner.specs.Serial.{first_world};
+ghost use Rattle.script_runner.specs.Worlds.{first_world};
+ghost use Rattle.script_runner.specs.Names.{HasNames, IsNumberedCommand};
+ghost use Rattle.script_runner.specs.Serial.{IsServed};
 ghost use Rattle.script_runner.specs.Outcomes.{RunText, RunCause, UsageText, UsageCause, SourceText, SourceCause, BytesText, BytesCause, ScriptText, ScriptCause};
 
-use crate::document::{Command, Document, DocumentFault, read_document};
+use crate::document::{Document, DocumentFault, read_document};
 use crate::put::put_all;
 use crate::read::{ReadError, read_at_most};
 use crate::script::perform;
@@ -14,7 +15,7 @@ use crate::status::Status;
 use crate::store::Store;
 use crate::words::read_words;
 use delf_io::{Clock, Sink, Source};
-use delf_model::{Moment, Schema};
+use delf_model::{Command, Moment, Schema};
 use std::alloc::Global;
 
 /// The greatest number of bytes that are read: one more than a document has.
@@ -103,8 +104,9 @@ fn run_bytes<K: Sink>(alloc: Global, start: Moment, bytes: &[u8], sink: &mut K) 
 }
 
 fn run_document<K: Sink>(alloc: Global, start: Moment, document: Document, sink: &mut K) -> Status
-    requires kinds { All (NamesType (length document.schema.objects)) document.commands }
-    requires numbered { length document.rules.objects ≡ length document.schema.objects }
+    requires named { HasNames document.schema document.rules }
+    requires numbered { All (IsNumberedCommand document.rules) document.commands }
+    requires served { All IsServed document.commands }
     ensures cause { ScriptCause (Rose (K.faults sink.old) (K.faults sink.new)) result }
     ensures text { IsTrue (K.told sink.old) → ScriptText document.schema (first_world document.rules start)
         document.commands (K.held sink.old) (K.held sink.new) result }
@@ -120,7 +122,9 @@ fn run_document<K: Sink>(alloc: Global, start: Moment, document: Document, sink:
     if commands.len() > u32::MAX as usize {
         return Status::OutOfMemory { done: 0 };
     }
-    let store = Store::new(alloc, rules, start);
+    let Ok(store) = Store::new(alloc, rules, start) else {
+        return Status::OutOfMemory { done: 0 };
+    };
     run_commands(alloc, &schema, store, commands.as_slice(), sink)
 }
 
@@ -132,8 +136,9 @@ fn run_commands<K: Sink>(
     sink: &mut K,
 ) -> Status
     requires count { length commands.now < 2 ^ 32 }
-    requires kinds { All (NamesType (length schema.now.objects)) commands.now }
-    requires numbered { length store.state.rules.objects ≡ length schema.now.objects }
+    requires named { HasNames schema.now store.rules }
+    requires numbered { All (IsNumberedCommand store.rules) commands.now }
+    requires served { All IsServed commands.now }
     ensures cause { ScriptCause (Rose (K.faults sink.old) (K.faults sink.new)) result }
     ensures text { IsTrue (K.told sink.old) → ScriptText schema.now store commands.now (K.held sink.old)
         (K.held sink.new) result }
@@ -150,5 +155,7 @@ fn run_commands<K: Sink>(
         };
         done += 1;
     }
+    // The history is legal, and so sound.
+    let _len = store.len();
     Status::Done
 }
