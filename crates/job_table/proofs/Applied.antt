@@ -1,4 +1,4 @@
-use Rattle.std.proofs.Common.{◌≡◌, ℕ, ◌+◌, ◌-◌, ◌≤◌, Bool, true, false, cond, ◌&&◌, ◌∷◌, ◌++◌, [], Option, Some, None, is_some, sym, ◌∙◌, ap, subst, arith}
+use Rattle.std.proofs.Common.{◌≡◌, ℕ, ◌+◌, ◌-◌, ◌≤◌, Bool, true, false, cond, ◌&&◌, ◌∷◌, ◌++◌, [], Option, Some, None, is_some, sym, ◌∙◌, ap, subst, arith, refl}
 use Rattle.std.specs.Prelude.{nat_eq, is_none, sum_by}
 use Rattle.delf_model.specs.declared.rows.EdgeKey.{EdgeKey}
 use Rattle.delf_model.specs.declared.entry.Entry.{Entry}
@@ -25,6 +25,8 @@ use Rattle.job_table.proofs.Calls.{create_step, update_step, link_step}
 use Rattle.job_table.proofs.Erasures.{CutFacts, cut_facts, cut_item, passes, cut_passing_step, cut_passing_owed, cut_plain_step, cut_plain_owed, EraseFacts, erase_facts, erase_step, erase_owed}
 use Rattle.job_table.proofs.Lookups.{both}
 use Rattle.job_table.proofs.Puts.{PutFacts, put_facts, put_step, item_within}
+use Rattle.job_table.specs.Owning.{Gains}
+use Rattle.job_table.proofs.Owning.{gained}
 
 -- the state's graph is ordered, since the stored one is
 pub ordered : (s : State) (stored : Graph) → stored ≡ s.graph → objects_rise stored.objects ≡ true → edges_rise stored.edges ≡ true → EndsStand stored →
@@ -77,10 +79,14 @@ module _ (s : State) (e : Entry) (tag : Tag) (key : EdgeKey) (name : ℕ) (t : T
   unlink_starts = starts_is s stored refs ruled key i unlink_order (unlink_facts s e.moment key.edge key.from key.to name tag unlink_legal).4
 
   pub unlink_started_applied : (new : Table) → takes_last ruled refs stored key ≡ true →
-      new ≡ noted_start t e.moment (Some tag.seat) key.to (Named name) (t.owed - 2) → IsTableOf (step s e) new
-  unlink_started_applied new b q =
-      applied s e (Unlink tag key.edge key.from key.to name) (noted_start t e.moment (Some tag.seat) key.to (Named name) (t.owed - 2)) new what
-      (λ m. unlink_started_step s e.moment key.edge key.from key.to name tag t unlink_order h m (unlink_starts ∙ b)) q l
+      new ≡ record (noted_start t e.moment (Some tag.seat) key.to (Named name) (t.owed - 2)) { owners = new.owners } →
+      Gains t.owners new.owners key.to t.len → IsTableOf (step s e) new
+  unlink_started_applied new b q g =
+      let pushed = noted_start t e.moment (Some tag.seat) key.to (Named name) (t.owed - 2) in
+      gained (step s e) t.owners key.to t.len pushed new
+      (applied s e (Unlink tag key.edge key.from key.to name) pushed pushed what
+      (λ m. unlink_started_step s e.moment key.edge key.from key.to name tag t unlink_order h m (unlink_starts ∙ b)) refl l)
+      refl (h.owners key.to ∙ (unlink_facts s e.moment key.edge key.from key.to name tag unlink_legal).3) q g
 
   pub unlink_started_enough : takes_last ruled refs stored key ≡ true → 2 ≤ t.owed
   unlink_started_enough b =
@@ -127,11 +133,14 @@ module _ (s : State) (e : Entry) (job : ℕ) (key : EdgeKey) (t : Table) (stored
 
   pub cut_passing_applied : (new : Table) (it : Item) → it ≡ cut_item s job cut_found.row →
       (is_none (owner s key.to) && condemns_before ruled refs stored key) ≡ true →
-      new ≡ record (noted_item t e.moment job it (t.owed - 3)) { owners = t.owners ++ (key.to, job) ∷ [] } → IsTableOf (step s e) new
-  cut_passing_applied new it f b q =
-      applied s e (Cut job key.edge key.from key.to) (record (noted_item t e.moment job (cut_item s job cut_found.row) (t.owed - 3)) { owners = t.owners ++ (key.to, job) ∷ [] }) new what
-      (λ m. cut_passing_step s e.moment job key.edge key.from key.to t cut_order h cut_found (cut_passes ∙ b))
-      (q ∙ ap (λ (v : Item). record (noted_item t e.moment job v (t.owed - 3)) { owners = t.owners ++ (key.to, job) ∷ [] }) f) l
+      new ≡ record (noted_item t e.moment job it (t.owed - 3)) { owners = new.owners } → Gains t.owners new.owners key.to job → IsTableOf (step s e) new
+  cut_passing_applied new it f b q g =
+      let pushed = record (noted_item t e.moment job (cut_item s job cut_found.row) (t.owed - 3)) { owners = t.owners ++ (key.to, job) ∷ [] } in
+      gained (step s e) t.owners key.to job pushed new
+      (applied s e (Cut job key.edge key.from key.to) pushed pushed what
+      (λ m. cut_passing_step s e.moment job key.edge key.from key.to t cut_order h cut_found (cut_passes ∙ b)) refl l)
+      refl (h.owners key.to ∙ none_of (owner s key.to) (both (is_none (owner s key.to)) (condemns_before ruled refs stored key) b).0)
+      (q ∙ ap (λ (v : Item). record (noted_item t e.moment job v (t.owed - 3)) { owners = new.owners }) f) g
 
   pub cut_passing_enough : (is_none (owner s key.to) && condemns_before ruled refs stored key) ≡ true → 3 ≤ t.owed
   cut_passing_enough b =
@@ -243,9 +252,13 @@ module _ (s : State) (e : Entry) (t : Table) (stored : Graph) (refs : ℕ → Bo
       let r = room_of (step s (record { moment = e.moment; what = Update tag id size })) (noted t e.moment (Some tag.seat) t.owed)
       (update_step s e.moment id size tag t order h (legal_as s e (Update tag id size) w l)) in omega (arith, r)
 
-  pub delete_applied : (tag : Tag) (id name : ℕ) (new : Table) → e.what ≡ Delete tag id name → new ≡ noted_start t e.moment (Some tag.seat) id (Named name) (t.owed - 1) → IsTableOf (step s e) new
-  delete_applied tag id name new w q =
-      applied s e (Delete tag id name) (noted_start t e.moment (Some tag.seat) id (Named name) (t.owed - 1)) new w (λ m. delete_step s e.moment id name tag t order h m) q l
+  pub delete_applied : (tag : Tag) (id name : ℕ) (new : Table) → e.what ≡ Delete tag id name →
+      new ≡ record (noted_start t e.moment (Some tag.seat) id (Named name) (t.owed - 1)) { owners = new.owners } → Gains t.owners new.owners id t.len → IsTableOf (step s e) new
+  delete_applied tag id name new w q g =
+      let pushed = noted_start t e.moment (Some tag.seat) id (Named name) (t.owed - 1) in
+      gained (step s e) t.owners id t.len pushed new
+      (applied s e (Delete tag id name) pushed pushed w (λ m. delete_step s e.moment id name tag t order h m) refl l)
+      refl (h.owners id ∙ (delete_facts s e.moment id name tag (legal_as s e (Delete tag id name) w l)).2) q g
 
   pub delete_enough : (tag : Tag) (id name : ℕ) → e.what ≡ Delete tag id name → 1 ≤ t.owed
   delete_enough tag id name w = omega (arith, h.owed, delete_owed s e.moment id name tag order h.keeps (legal_as s e (Delete tag id name) w l))
@@ -253,9 +266,13 @@ module _ (s : State) (e : Entry) (t : Table) (stored : Graph) (refs : ℕ → Bo
   pub delete_free : (tag : Tag) (id name : ℕ) → e.what ≡ Delete tag id name → owner_among t.owners id ≡ None
   delete_free tag id name w = h.owners id ∙ (delete_facts s e.moment id name tag (legal_as s e (Delete tag id name) w l)).2
 
-  pub expire_applied : (id : ℕ) (new : Table) → e.what ≡ Expire id → new ≡ noted_start t e.moment None id (Expiry id) (t.owed - 1) → IsTableOf (step s e) new
-  expire_applied id new w q =
-      applied s e (Expire id) (noted_start t e.moment None id (Expiry id) (t.owed - 1)) new w (λ m. expire_step s e.moment id t order h m) q l
+  pub expire_applied : (id : ℕ) (new : Table) → e.what ≡ Expire id →
+      new ≡ record (noted_start t e.moment None id (Expiry id) (t.owed - 1)) { owners = new.owners } → Gains t.owners new.owners id t.len → IsTableOf (step s e) new
+  expire_applied id new w q g =
+      let pushed = noted_start t e.moment None id (Expiry id) (t.owed - 1) in
+      gained (step s e) t.owners id t.len pushed new
+      (applied s e (Expire id) pushed pushed w (λ m. expire_step s e.moment id t order h m) refl l)
+      refl (h.owners id ∙ (expire_facts s e.moment id (legal_as s e (Expire id) w l)).2) q g
 
   pub expire_enough : (id : ℕ) → e.what ≡ Expire id → 1 ≤ t.owed
   expire_enough id w = omega (arith, h.owed, expire_owed s e.moment id order h.keeps (legal_as s e (Expire id) w l))

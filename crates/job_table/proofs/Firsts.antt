@@ -3,10 +3,9 @@ use Rattle.std.specs.Prelude.{nat_eq, nat_lt, find, option_map, slice_get, count
 use Rattle.std.specs.List.{position, list_all, list_any}
 use Rattle.std.proofs.lemmas.List.Quantifiers.{position-Some}
 use Rattle.delf_model.specs.declared.entry.What.TheVariants.{Cut, Erase, Purge}
-use Rattle.delf_model.specs.Graph.{Graph, objects_rise}
-use Rattle.delf_model.specs.State.{State, JobRow, Logged, owned, is_pair_of, job_row, is_restored, is_restored_row, left, is_open_of, job_of, first_of_two}
+use Rattle.delf_model.specs.State.{State, JobRow, Logged, owned, job_row, is_restored, is_restored_row, left, is_open_of, job_of, first_of_two}
 use Rattle.delf_model.specs.Legal.{last_erasure_or_zero}
-use Rattle.delf_model.specs.Order.{is_restoring, is_oldest_restoring, is_no_older, owns_some, purges, last_place, first_put, first_erasure, first_purge, put_of, put_of_job, erasure_of_pair, erasure_of_job, purge_of, cut_or_erase}
+use Rattle.delf_model.specs.Order.{is_restoring, is_oldest_restoring, is_no_older, purges, last_place, first_put, first_purge, put_of, put_of_job, purge_of, cut_or_erase}
 use Rattle.job_table.specs.declared.jobs.Row.{Row}
 use Rattle.job_table.specs.Table.{Table, IsTableOf, Keeps, owned_among}
 use Rattle.job_table.specs.Parts.{row_of, logged_of, ItemPart}
@@ -14,9 +13,7 @@ use Rattle.job_table.specs.declared.items.Kept.{Kept}
 use Rattle.job_table.proofs.Listing.{length_take}
 use Rattle.job_table.specs.Items.{is_unhandled_of}
 use Rattle.delf_model.specs.declared.rows.EdgeRow.{EdgeRow}
-use Rattle.job_table.specs.Apart.{are_apart}
-use Rattle.job_table.proofs.Leasts.{least_is_first, first_id}
-use Rattle.job_table.specs.Serial.{least_among, erasure_of_least, owns_in, left_in, restoring_in, is_elder, is_oldest_in, purges_in}
+use Rattle.job_table.specs.Serial.{left_in, restoring_in, is_elder, is_oldest_in, purges_in}
 use Rattle.job_table.proofs.Lookups.{both}
 use Rattle.job_table.proofs.Steps.{eqb_is}
 use Rattle.job_table.proofs.Places.{find_map, find_at_place, find_nowhere, position_none, less_tail, map_length, get_map, take_one}
@@ -97,9 +94,6 @@ oldest_kept s items rows keeps e f k d l =
 
     test : JobRow → Bool
     test other = not (is_restoring s other) || is_no_older (get_or rows k d).restored other.restored
-
-pub owns_kept : (s : State) (pairs : List (ℕ × ℕ)) (rows : List Row) → ((job : ℕ) → owned_among pairs job ≡ owned s job) → Agrees (owns_in pairs) (owns_some s) rows
-owns_kept s pairs rows e k d l = ap (nat_lt 0) (sym (e (get_or rows k d).start))
 
 pub purges_kept : (s : State) (pairs : List (ℕ × ℕ)) (items : List Logged) (moment window : ℕ) (rows : List Row) → Keeps s → map row_of rows ≡ s.jobs → items ≡ s.items →
     ((job : ℕ) → owned_among pairs job ≡ owned s job) → window ≡ s.rules.window →
@@ -184,23 +178,6 @@ module _ (s : State) (t : Table) (rows : List Row) (h : IsTableOf s t) (e : map 
   pub purge_missing : (window moment : ℕ) → window ≡ s.rules.window → None ≡ position (purges_in t.owners t.items window moment) rows → None ≡ first_purge s moment
   purge_missing window moment w f =
       ap purge_of (sym (no_job_found (purges_in t.owners t.items window moment) (purges s moment) rows s.jobs kept (purges_kept s t.owners t.items moment window rows h.keeps kept h.items h.owned w) f))
-
-  pub erasure_found : (stored : Graph) (i : ℕ) (got : Row) → stored ≡ s.graph → objects_rise s.graph.objects ≡ true → are_apart t.owners ≡ true →
-      Some i ≡ position (owns_in t.owners) rows → got ≡ get_or rows i got →
-      erasure_of_least got.start stored (least_among got.start t.owners) ≡ first_erasure s
-  erasure_found stored i got w r a f g =
-      ap (λ (v : Graph). erasure_of_least got.start v (least_among got.start t.owners)) w
-      ∙ ap (erasure_of_least got.start s.graph) (least_is_first got.start t.owners s.owners s.graph.objects a h.owners h.keeps.ids r)
-      ∙ go (find (is_pair_of got.start) s.owners)
-      ∙ ap (erasure_of_job s) (sym (found_job (owns_in t.owners) (owns_some s) rows s.jobs i got kept (owns_kept s t.owners rows h.owned) f g))
-    where
-      go : (o : Option (ℕ × Option ℕ)) → erasure_of_least got.start s.graph (first_id o) ≡ erasure_of_pair s got.start o
-      go None = refl
-      go (Some pair) = refl
-
-  pub erasure_missing : None ≡ position (owns_in t.owners) rows → None ≡ first_erasure s
-  erasure_missing f =
-      ap (erasure_of_job s) (sym (no_job_found (owns_in t.owners) (owns_some s) rows s.jobs kept (owns_kept s t.owners rows h.owned) f))
 
 -- the first edges of an object
 

@@ -1,7 +1,6 @@
-use Rattle.std.proofs.Common.{◌≡◌, ℕ, zero, suc, ◌+◌, ◌<◌, ◌≤◌, Bool, true, false, cond, not, ◌&&◌, ◌||◌, List, [], ◌∷◌, drop, map, length, get_or, Option, Some, None, refl, sym, ap, ◌∙◌, subst, arith}
+use Rattle.std.proofs.Common.{◌≡◌, ℕ, zero, suc, ◌+◌, ◌<◌, ◌≤◌, Bool, true, false, cond, not, ◌&&◌, ◌||◌, List, [], ◌∷◌, drop, length, Option, Some, None, refl, sym, ap, ◌∙◌, subst, arith}
 use Rattle.std.specs.Prelude.{find, filter, is_some, slice_get, nat_eq, option_map, option_and_then}
-use Rattle.std.specs.List.{position, list_any}
-use Rattle.std.proofs.lemmas.List.Quantifiers.{position-Some}
+use Rattle.std.specs.List.{list_any}
 use Rattle.delf_model.specs.declared.rows.EdgeRow.{EdgeRow}
 use Rattle.delf_model.specs.declared.entry.What.{What}
 use Rattle.delf_model.specs.declared.entry.What.TheVariants.{Cut, Erase}
@@ -9,14 +8,11 @@ use Rattle.delf_model.specs.Graph.{Graph, has_key, edge_at, edge_stands, same_ke
 use Rattle.delf_model.specs.State.{State, owner, is_owned_by, is_job, key_of, first_of_two}
 use Rattle.delf_model.specs.Legal.{is_allowed}
 use Rattle.delf_model.specs.Order.{is_step, is_held}
-use Rattle.job_table.specs.declared.owners.Owned.{Owned}
 use Rattle.job_table.specs.Table.{owner_among, is_of_id, job_of_pair}
 use Rattle.job_table.specs.Apart.{are_apart}
-use Rattle.job_table.specs.Parts.{pair_of}
-use Rattle.job_table.specs.Free.{cut_of, is_free_edge, free_cut, free_erase, free_step, has_free, has_free_owned, free_among}
+use Rattle.job_table.specs.Free.{cut_of, is_free_edge, free_cut, free_erase, free_step, has_free, free_among}
 use Rattle.job_table.proofs.Lookups.{both, same_key_self}
 use Rattle.job_table.proofs.Steps.{eqb_self, eqb_is, edge_key_is}
-use Rattle.job_table.proofs.Places.{find_map, find_at_place, find_nowhere, position_none}
 use Rattle.job_table.proofs.Leasts.{has_pair, owner_has}
 use Rattle.job_table.proofs.Erasures.{owner_is}
 
@@ -127,22 +123,38 @@ touched_in id rows o q b c e f n g h =
     let out : is_some (slice_get (filter (leaves_from id) rows) 0) ≡ false = ap is_some (sym e) ∙ sym f ∙ n in
     h ∙ ap is_some g ∙ sym (touched_by id rows ∙ ap (λ (d : Bool). d || is_some (slice_get (filter (leads_to id) rows) 0)) out)
 
+-- a loop that looks for the first element that passes
+
+pub find_here : {A : Type 0} (p : A → Bool) (xs : List A) (i : ℕ) (x : A) → find p xs ≡ find p (drop i xs) → Some x ≡ slice_get xs i → p x ≡ true → Some x ≡ find p xs
+find_here p xs i x rest e t =
+    sym (rest ∙ ap (find p) (drop_get xs i x e) ∙ ap (λ (b : Bool). cond b (Some x) (find p (drop (i + 1) xs))) t)
+
+pub find_past : {A : Type 0} (p : A → Bool) (xs : List A) (i : ℕ) (x : A) → find p xs ≡ find p (drop i xs) → Some x ≡ slice_get xs i → p x ≡ false →
+    find p xs ≡ find p (drop (i + 1) xs)
+find_past p xs i x rest e t = rest ∙ ap (find p) (drop_get xs i x e) ∙ ap (λ (b : Bool). cond b (Some x) (find p (drop (i + 1) xs))) t
+
+pub find_over : {A : Type 0} (p : A → Bool) (xs : List A) (i : ℕ) → find p xs ≡ find p (drop i xs) → None ≡ slice_get xs i → None ≡ find p xs
+find_over p xs i rest e = sym (rest ∙ ap (find p) (drop_past xs i e))
+
 -- the first owned object with a free step
 
-pub free_found : (g : Graph) (held : List What) (rows : List Owned) (pairs : List (ℕ × ℕ)) (i : ℕ) (got : Owned) (answer : Option What) → map pair_of rows ≡ pairs →
-    Some i ≡ position (has_free_owned g held) rows → got ≡ get_or rows i got → answer ≡ free_step g held (pair_of got) → answer ≡ free_among g held pairs
-free_found g held rows pairs i got answer e f at is =
-    let facts = position-Some (has_free_owned g held) rows i got (sym f) in
-    is
-    ∙ sym (ap (free_among g held) (sym e) ∙ ap (option_and_then (free_step g held)) (find_map pair_of (has_free g held) rows
-    ∙ ap (option_map pair_of) (find_at_place (has_free_owned g held) rows i got facts.0 facts.2 facts.1)
-    ∙ sym (ap (λ (r : Owned). Some (pair_of r)) at)))
+pub free_here : (g : Graph) (held : List What) (pairs : List (ℕ × ℕ)) (i : ℕ) (pair : ℕ × ℕ) (step : Option What) (b : Bool) →
+    find (has_free g held) pairs ≡ find (has_free g held) (drop i pairs) → Some pair ≡ slice_get pairs i → step ≡ free_step g held pair → b ≡ is_some step → b ≡ true →
+    step ≡ free_among g held pairs
+free_here g held pairs i pair step b rest e is f t =
+    let passes : has_free g held pair ≡ true = ap is_some (sym is) ∙ sym f ∙ t in
+    is ∙ ap (option_and_then (free_step g held)) (find_here (has_free g held) pairs i pair rest e passes)
 
-pub free_nowhere : (g : Graph) (held : List What) (rows : List Owned) (pairs : List (ℕ × ℕ)) → map pair_of rows ≡ pairs →
-    None ≡ position (has_free_owned g held) rows → None ≡ free_among g held pairs
-free_nowhere g held rows pairs e f =
-    sym (ap (free_among g held) (sym e) ∙ ap (option_and_then (free_step g held)) (find_map pair_of (has_free g held) rows
-    ∙ ap (option_map pair_of) (find_nowhere (has_free_owned g held) rows (position_none (has_free_owned g held) rows f))))
+pub free_past : (g : Graph) (held : List What) (pairs : List (ℕ × ℕ)) (i : ℕ) (pair : ℕ × ℕ) (step : Option What) (b : Bool) →
+    find (has_free g held) pairs ≡ find (has_free g held) (drop i pairs) → Some pair ≡ slice_get pairs i → step ≡ free_step g held pair → b ≡ is_some step → b ≡ false →
+    find (has_free g held) pairs ≡ find (has_free g held) (drop (i + 1) pairs)
+free_past g held pairs i pair step b rest e is f t =
+    let fails : has_free g held pair ≡ false = ap is_some (sym is) ∙ sym f ∙ t in
+    find_past (has_free g held) pairs i pair rest e fails
+
+pub free_over : (g : Graph) (held : List What) (pairs : List (ℕ × ℕ)) (i : ℕ) → find (has_free g held) pairs ≡ find (has_free g held) (drop i pairs) → None ≡ slice_get pairs i →
+    None ≡ free_among g held pairs
+free_over g held pairs i rest e = ap (option_and_then (free_step g held)) (find_over (has_free g held) pairs i rest e)
 
 -- rows of a filtered list
 
@@ -267,7 +279,7 @@ module _ (s : State) (held : List What) where
       by_out None at e = by_in (find (is_free_edge held pair.1) (in_edges s.graph pair.0)) refl e
 
 -- what a pair that find finds owns
-found_owns : (p : ℕ × ℕ → Bool) (pairs : List (ℕ × ℕ)) (pair : ℕ × ℕ) → find p pairs ≡ Some pair → has_pair pair.1 pair.0 pairs ≡ true
+pub found_owns : (p : ℕ × ℕ → Bool) (pairs : List (ℕ × ℕ)) (pair : ℕ × ℕ) → find p pairs ≡ Some pair → has_pair pair.1 pair.0 pairs ≡ true
 found_owns p [] pair f = absurd (cc f)
 found_owns p (x ∷ xs) pair f = go (p x) f (found_owns p xs pair)
   where

@@ -20,3 +20,4 @@ pub mod Erasures
 pub mod Puts
 pub mod FreeSteps
 pub mod NextSteps
+pub mod Owning

@@ -9,11 +9,10 @@ use Rattle.delf_model.specs.declared.ids.JobName.{JobName}
 use Rattle.delf_model.specs.State.{JobRow, Logged, Handled, job_row, starts_at, handled_at, find_job, last_of, named_start, same_name, is_job}
 use Rattle.delf_model.specs.Order.{erases_same}
 use Rattle.job_table.specs.Table.{given_up, greatest, owner_among, owned_among, is_of_id, is_of_owner, job_of_pair}
-use Rattle.job_table.specs.Parts.{changed_first, row_of, pair_of, is_start, is_owned_id, logged_of, handled_of, ItemPart, JobPart, OwnerPart, SeatPart, ClaimPart}
+use Rattle.job_table.specs.Parts.{changed_first, row_of, is_start, logged_of, handled_of, ItemPart, JobPart, SeatPart, ClaimPart}
 use Rattle.job_table.specs.declared.items.Kept.{Kept}
 use Rattle.job_table.specs.declared.items.Handling.{Handling}
 use Rattle.job_table.specs.declared.jobs.Row.{Row}
-use Rattle.job_table.specs.declared.owners.Owned.{Owned}
 use Rattle.job_table.specs.Apart.{are_apart}
 
 -- a place below the length of a longer list
@@ -152,34 +151,11 @@ give_up_none steps slice now spare step e v p =
     let q : None ≡ position (erases_same step) steps = p ∙ ap (position (erases_same step)) e in
     subst (λ (n : ClaimPart). n.list ≡ given_up step n.list) v (given_up_nowhere step steps (position_none (erases_same step) steps q))
 
-pub owner_some : (pairs slice : List Owned) (now : OwnerPart) (spare id i : ℕ) (got : Owned) → slice ≡ pairs →
-    record { list = map pair_of pairs; spare = spare } ≡ now → Some i ≡ position (is_owned_id id) slice → got ≡ get_or pairs i got →
-    Some got.job ≡ owner_among now.list id
-owner_some pairs slice now spare id i got e v p g =
-    let q : Some i ≡ position (is_owned_id id) pairs = p ∙ ap (position (is_owned_id id)) e in
-    let facts = position-Some (is_owned_id id) pairs i got (sym q) in
-    ap (λ (r : Owned). Some (pair_of r).1) g
-    ∙ sym (ap (λ (n : OwnerPart). owner_among n.list id) (sym v) ∙ ap (option_map job_of_pair) (find_map pair_of (is_of_id id) pairs ∙ ap (option_map pair_of) (find_at_place (is_owned_id id) pairs i got facts.0 facts.2 facts.1)))
-
-pub owner_none : (pairs slice : List Owned) (now : OwnerPart) (spare id : ℕ) → slice ≡ pairs →
-    record { list = map pair_of pairs; spare = spare } ≡ now → None ≡ position (is_owned_id id) slice → None ≡ owner_among now.list id
-owner_none pairs slice now spare id e v p =
-    let q : None ≡ position (is_owned_id id) pairs = p ∙ ap (position (is_owned_id id)) e in
-    sym (ap (λ (n : OwnerPart). owner_among n.list id) (sym v) ∙ ap (option_map job_of_pair) (find_map pair_of (is_of_id id) pairs ∙ ap (option_map pair_of) (find_nowhere (is_owned_id id) pairs (position_none (is_owned_id id) pairs q))))
-
 -- the pairs without one id
 
 abbrev pub without : ℕ → List (ℕ × ℕ) → List (ℕ × ℕ)
 without id [] = []
 without id (x ∷ xs) = cond (is_of_id id x) xs (x ∷ without id xs)
-
-pub without_at : (pairs : List Owned) (id i : ℕ) (d : Owned) → i < length pairs → ((k : ℕ) → k < i → is_owned_id id (get_or pairs k d) ≡ false) →
-    is_owned_id id (get_or pairs i d) ≡ true → map pair_of (remove pairs i) ≡ without id (map pair_of pairs)
-without_at [] id i d l before at = absurd (omega arith)
-without_at (x ∷ xs) id zero d l before at = sym (ap (λ (b : Bool). cond b (map pair_of xs) (pair_of x ∷ without id (map pair_of xs))) at)
-without_at (x ∷ xs) id (suc i) d l before at =
-    ap (λ (v : List (ℕ × ℕ)). pair_of x ∷ v) (without_at xs id i d (less_tail i x xs l) (λ k h. before (suc k) (omega arith)) at)
-    ∙ sym (ap (λ (b : Bool). cond b (map pair_of xs) (pair_of x ∷ without id (map pair_of xs))) (before 0 (omega arith)))
 
 not_any : (id : ℕ) (xs : List (ℕ × ℕ)) → list_any (is_of_id id) xs ≡ false → owner_among xs id ≡ None
 not_any id [] h = refl
@@ -254,63 +230,9 @@ apart_without id (x ∷ xs) h =
     go true e f g = e
     go false e f g = ap (λ (b : Bool). not b && are_apart (without id xs)) f ∙ g
 
-any_push : (p : ℕ × ℕ → Bool) (xs : List (ℕ × ℕ)) (y : ℕ × ℕ) → list_any p xs ≡ false → p y ≡ false → list_any p (xs ++ y ∷ []) ≡ false
-any_push p [] y h e = ap (λ (b : Bool). b || false) e
-any_push p (x ∷ xs) y h e = go (p x) refl h (any_push p xs y)
-  where
-    go : (b : Bool) → p x ≡ b → (b || list_any p xs) ≡ false → (list_any p xs ≡ false → p y ≡ false → list_any p (xs ++ y ∷ []) ≡ false) →
-        (b || list_any p (xs ++ y ∷ [])) ≡ false
-    go true q f more = absurd (cc f)
-    go false q f more = more f e
-
-pub apart_push : (id job : ℕ) (xs : List (ℕ × ℕ)) → owner_among xs id ≡ None → are_apart xs ≡ true → are_apart (xs ++ (id, job) ∷ []) ≡ true
-apart_push id job [] n h = refl
-apart_push id job (x ∷ xs) n h =
-    let parts = apart_head x xs h in
-    go (nat_eq x.0 id) refl n parts.0 (λ m. apart_push id job xs m parts.1)
-  where
-    go : (b : Bool) → nat_eq x.0 id ≡ b → option_map job_of_pair (cond b (Some x) (find (is_of_id id) xs)) ≡ None → list_any (is_of_id x.0) xs ≡ false →
-        (owner_among xs id ≡ None → are_apart (xs ++ (id, job) ∷ []) ≡ true) → (not (list_any (is_of_id x.0) (xs ++ (id, job) ∷ [])) && are_apart (xs ++ (id, job) ∷ [])) ≡ true
-    go true q m f more = absurd (cc m)
-    go false q m f more =
-        let flip : nat_eq id x.0 ≡ false = grind (arith, nat_tests, q) in
-        ap (λ (b : Bool). not b && are_apart (xs ++ (id, job) ∷ [])) (any_push (is_of_id x.0) xs (id, job) f flip) ∙ more m
-
 pub map_push : {A B : Type 0} (g : A → B) (xs : List A) (y : A) → map g (xs ++ y ∷ []) ≡ map g xs ++ g y ∷ []
 map_push g [] y = refl
 map_push g (x ∷ xs) y = ap (λ (l : List _). g x ∷ l) (map_push g xs y)
-
-pub own_apart : (pairs after : List Owned) (now : OwnerPart) (spare id job : ℕ) → record { list = map pair_of pairs; spare = spare } ≡ now →
-    owner_among now.list id ≡ None → are_apart (map pair_of pairs) ≡ true → after ≡ pairs ++ (record { id = id; job = job }) ∷ [] →
-    are_apart (map pair_of after) ≡ true
-own_apart pairs after now spare id job v n h a =
-    ap (λ (l : List Owned). are_apart (map pair_of l)) a ∙ ap are_apart (map_push pair_of pairs (record { id = id; job = job }))
-    ∙ apart_push id job (map pair_of pairs) (ap (λ (m : OwnerPart). owner_among m.list id) v ∙ n) h
-
--- an object is disowned
-
-module _ (pairs slice after : List Owned) (now : OwnerPart) (spare id i : ℕ) (d : Owned) (e : slice ≡ pairs)
-    (v : record { list = map pair_of pairs; spare = spare } ≡ now) (p : Some i ≡ position (is_owned_id id) slice) (a : after ≡ remove pairs i)
-    (h : are_apart (map pair_of pairs) ≡ true) where
-  pub disowned : map pair_of after ≡ without id (map pair_of pairs)
-  disowned =
-      let q : Some i ≡ position (is_owned_id id) pairs = p ∙ ap (position (is_owned_id id)) e in
-      let facts = position-Some (is_owned_id id) pairs i d (sym q) in
-      ap (map pair_of) a ∙ without_at pairs id i d facts.0 facts.2 facts.1
-
-  pub disowned_apart : are_apart (map pair_of after) ≡ true
-  disowned_apart = ap are_apart disowned ∙ apart_without id (map pair_of pairs) h
-
-  pub disowned_owner : (other : ℕ) → owner_among (map pair_of after) other ≡ cond (nat_eq other id) None (owner_among now.list other)
-  disowned_owner other =
-      ap (λ (l : List (ℕ × ℕ)). owner_among l other) disowned ∙ owner_without id other (map pair_of pairs) h
-      ∙ ap (λ (m : OwnerPart). cond (nat_eq other id) None (owner_among m.list other)) v
-
-  pub disowned_owned : (job : ℕ) → owned_among (map pair_of after) job + cond (is_job job (owner_among now.list id)) 1 0 ≡ owned_among now.list job
-  disowned_owned job =
-      ap (λ (l : List (ℕ × ℕ)). owned_among l job + cond (is_job job (owner_among now.list id)) 1 0) disowned
-      ∙ ap (λ (m : OwnerPart). owned_among (without id (map pair_of pairs)) job + cond (is_job job (owner_among m.list id)) 1 0) (sym v)
-      ∙ owned_without id job (map pair_of pairs) ∙ ap (λ (m : OwnerPart). owned_among m.list job) v
 
 pub absent_owner : (l : List (ℕ × ℕ)) (id other : ℕ) → None ≡ owner_among l id → owner_among l other ≡ cond (nat_eq other id) None (owner_among l other)
 absent_owner l id other n = go (nat_eq other id) refl
@@ -359,9 +281,6 @@ map_sum g f (x ∷ xs) = omega (arith, sum_by-cons f (g x) (map g xs), sum_by-co
 pub map_length : {A B : Type 0} (g : A → B) (xs : List A) → length (map g xs) ≡ length xs
 map_length g [] = refl
 map_length g (x ∷ xs) = ap suc (map_length g xs)
-
-pub owners_len : (pairs : List Owned) (now : OwnerPart) (spare : ℕ) → record { list = map pair_of pairs; spare = spare } ≡ now → length now.list ≡ length pairs
-owners_len pairs now spare v = ap (λ (n : OwnerPart). length n.list) (sym v) ∙ map_length pair_of pairs
 
 -- one element more
 

@@ -5,8 +5,6 @@ use Rattle.delf_model.specs.declared.entry.What.TheVariants.{Cut, Erase}
 use Rattle.delf_model.specs.Graph.{Graph, is_touched, out_edges, in_edges}
 use Rattle.delf_model.specs.State.{first_of_two}
 use Rattle.delf_model.specs.Order.{is_held}
-use Rattle.job_table.specs.declared.owners.Owned.{Owned}
-use Rattle.job_table.specs.Parts.{pair_of}
 
 -- the step of the job that takes this edge
 abbrev pub cut_of : ℕ → EdgeRow → What
@@ -31,9 +29,6 @@ free_step g held pair =
 
 abbrev pub has_free : Graph → List What → ℕ × ℕ → Bool
 has_free g held pair = is_some (free_step g held pair)
-
-abbrev pub has_free_owned : Graph → List What → Owned → Bool
-has_free_owned g held owned = has_free g held (pair_of owned)
 
 -- such a step of the first owned object that has one
 abbrev pub free_among : Graph → List What → List (ℕ × ℕ) → Option What

@@ -4,6 +4,7 @@ pub mod Free
 pub mod Items
 pub mod Next
 pub mod Notes
+pub mod Owning
 pub mod Parts
 pub mod Serial
 pub mod Table

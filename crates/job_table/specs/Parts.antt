@@ -4,7 +4,6 @@ use Rattle.delf_model.specs.State.{Handled, Logged, JobRow}
 use Rattle.job_table.specs.declared.items.Handling.{Handling}
 use Rattle.job_table.specs.declared.items.Kept.{Kept}
 use Rattle.job_table.specs.declared.jobs.Row.{Row}
-use Rattle.job_table.specs.declared.owners.Owned.{Owned}
 
 -- a list with the number of further elements that need no memory
 
@@ -46,9 +45,6 @@ row_of row = record {
   last = row.last;
 }
 
-abbrev pub pair_of : Owned → ℕ × ℕ
-pair_of owned = (owned.id, owned.job)
-
 -- the list with its first element that passes changed
 abbrev pub changed_first : {A : Type 0} → (A → Bool) → (A → A) → List A → List A
 changed_first test f [] = []
@@ -56,6 +52,3 @@ changed_first test f (x ∷ xs) = cond (test x) (f x ∷ xs) (x ∷ changed_firs
 
 abbrev pub is_start : ℕ → Row → Bool
 is_start job row = nat_eq row.start job
-
-abbrev pub is_owned_id : ℕ → Owned → Bool
-is_owned_id id owned = nat_eq owned.id id

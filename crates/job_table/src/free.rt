@@ -1,10 +1,8 @@
 ghost use Rattle.std.specs.Prelude.{◌≡◌};
-ghost use Rattle.std.specs.List.{position};
 ghost use Rattle.delf_model.specs.Graph.{out_edges, in_edges, is_touched as is_touched_in};
-ghost use Rattle.job_table.specs.Free.{free_cut, free_erase as free_erase_of, free_step as free_step_of, has_free_owned};
+ghost use Rattle.job_table.specs.Free.{free_cut, free_erase as free_erase_of, free_step as free_step_of};
 
 use crate::claims::Claims;
-use crate::owners::Owned;
 use crate::serial::cut;
 use delf_model::{GraphStore, Job, ObjectId, What};
 
@@ -64,27 +62,19 @@ fn free_erase<G: GraphStore>(claims: &Claims, graph: &G, job: Job, id: ObjectId)
 }
 
 /// A step of the owner that takes an edge of the object, or the object, and is not held.
-pub(crate) fn free_step<G: GraphStore>(claims: &Claims, graph: &G, owned: &Owned) -> Option<What>
-    ensures { result ≡ free_step_of (G.graph graph.now) claims.now.list (owned.now.id, owned.now.job) }
-{
-    if let Some(step) = free_out(claims, graph, owned.job, owned.id) {
-        return Some(step);
-    }
-    if let Some(step) = free_in(claims, graph, owned.job, owned.id) {
-        return Some(step);
-    }
-    free_erase(claims, graph, owned.job, owned.id)
-}
-
-/// The place of the first owned object that has such a step.
-pub(crate) fn place_of_free<G: GraphStore>(
-    pairs: &[Owned],
+pub(crate) fn free_step<G: GraphStore>(
     claims: &Claims,
     graph: &G,
-) -> Option<usize>
-    ensures { result ≡ position (has_free_owned (G.graph graph.now) claims.now.list) pairs.now }
+    job: Job,
+    id: ObjectId,
+) -> Option<What>
+    ensures { result ≡ free_step_of (G.graph graph.now) claims.now.list (id, job) }
 {
-    pairs
-        .iter()
-        .position(|owned| free_step(claims, graph, owned).is_some())
+    if let Some(step) = free_out(claims, graph, job, id) {
+        return Some(step);
+    }
+    if let Some(step) = free_in(claims, graph, job, id) {
+        return Some(step);
+    }
+    free_erase(claims, graph, job, id)
 }

@@ -7,7 +7,7 @@ ghost use Rattle.job_table.specs.Next.{step_of, IsSerial, IsFreeNext, IsFirstHel
 ghost use Rattle.job_table.specs.Apart.{are_apart};
 ghost use Rattle.job_table.specs.Free.{free_among};
 
-use crate::free::{free_step, place_of_free};
+use crate::free::free_step;
 use crate::table::JobTable;
 use delf_model::{EdgeNo, GraphStore, Job, Moment, ObjectId, Rules, What};
 
@@ -114,10 +114,18 @@ impl JobTable {
         ensures value { result ≡ free_among (G.graph graph.now) self.now.held self.now.owners }
         ensures apart { IsTrue (are_apart self.now.owners) }
     {
-        let pairs = self.owners.pairs();
-        match place_of_free(pairs, &self.claims, graph) {
-            Some(i) => free_step(&self.claims, graph, &pairs[i]),
-            None => None,
+        let mut i = 0;
+        'pairs: loop {
+            match self.owners.at(i) {
+                None => return None,
+                Some(pair) => {
+                    let step = free_step(&self.claims, graph, pair.1, pair.0);
+                    if step.is_some() {
+                        return step;
+                    }
+                    i += 1;
+                }
+            }
         }
     }
 }

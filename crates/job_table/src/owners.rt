@@ -1,39 +1,35 @@
-ghost use Rattle.std.specs.Prelude.{◌≡◌, ◌+◌, ◌<◌, ◌≤◌, ◌^◌, ◌++◌, ◌∷◌, [], None, cond, nat_eq, OnOk, length, map, ℕ, IsTrue};
-ghost use Rattle.std.specs.List.{position};
-ghost use Rattle.job_table.specs.Parts.{is_owned_id, pair_of};
-ghost use Rattle.job_table.specs.Serial.{least_among, with_pair};
+ghost use Rattle.std.specs.Prelude.{◌≡◌, ◌+◌, ◌<◌, ◌≤◌, ◌^◌, [], None, cond, nat_eq, false, true, OnOk, IfSome, length, slice_get, slice_index_or, ℕ, IsTrue};
 ghost use Rattle.job_table.specs.Apart.{are_apart as are_apart_pairs};
+ghost use Rattle.job_table.specs.Owning.{is_before as is_before_pair, pairs_rise as rise_pairs, Gains};
 ghost use Rattle.job_table.specs.Table.{owner_among, owned_among};
 ghost use Rattle.delf_model.specs.State.{is_job};
 
 use delf_model::{Job, ObjectId};
 use std::alloc::{AllocError, Global};
+use std::collections::{HashMap, VecDeque};
 use std::marker::Model;
 
-/// An owned object with its job.
-#[derive(Clone, Copy)]
-pub struct Owned {
-    pub id: ObjectId,
-    pub job: Job,
-}
-
-/// The owned objects, each once.
+/// The owned objects, each once with its job: by rising job and then by rising id, and the job of each by its id.
+/// Oldest jobs are at the front, where most objects leave; new jobs come at the back.
 #[derive(Drop)]
 pub struct Owners {
-    pairs: Vec<Owned>,
+    pairs: VecDeque<(ObjectId, Job)>,
+    jobs: HashMap<u64, u32>,
+    spare: u32,
 }
 
 impl Model for Owners {
-    ghost use Rattle.std.specs.Prelude.{◌-◌, ◌<◌, ◌^◌, map, vec_len, vec_capacity};
-    ghost use Rattle.std.specs.Prelude.{IsTrue};
-    ghost use Rattle.job_table.specs.Parts.{OwnerPart, pair_of};
-    ghost use Rattle.job_table.specs.Apart.{are_apart};
+    ghost use Rattle.std.specs.Prelude.{nat_eq};
+    ghost use Rattle.std.specs.HashMap.{get, spare as room_of};
+    ghost use Rattle.std.specs.VecDeque.{deque_capacity};
+    ghost use Rattle.job_table.specs.Parts.{OwnerPart};
+    ghost use Rattle.job_table.specs.Owning.{OwnersFit};
 
     ghost Value = { OwnerPart };
 
-    ghost view = { λ l. record { list = map pair_of l.pairs.items; spare = vec_capacity l.pairs - vec_len l.pairs } };
+    ghost view = { λ l. record { list = l.pairs.items; spare = l.spare } };
 
-    ghost invariant = { λ l. (vec_len l.pairs < 2 ^ 32) × IsTrue (are_apart (map pair_of l.pairs.items)) };
+    ghost invariant = { λ l. OwnersFit l.pairs.items (get nat_eq l.jobs) (deque_capacity l.pairs) (room_of l.jobs) l.spare };
 }
 
 impl Owners {
@@ -41,7 +37,9 @@ impl Owners {
         ensures { result.list ≡ [] }
     {
         Owners {
-            pairs: Vec::new(alloc),
+            pairs: VecDeque::new(alloc),
+            jobs: HashMap::new(alloc),
+            spare: 0,
         }
     }
 
@@ -50,15 +48,20 @@ impl Owners {
         ensures ok { OnOk result (n ≤ self.new.spare) }
         ensures kept { self.old.spare ≤ self.new.spare }
     {
+        if n <= self.spare {
+            return Ok(());
+        }
         self.pairs.reserve(n as usize)?;
+        self.jobs.reserve(n as usize)?;
+        self.spare = n;
         Ok(())
     }
 
     pub fn owner(&self, id: ObjectId) -> Option<Job>
         ensures { result ≡ owner_among self.now.list id }
     {
-        match place(&self.pairs, id) {
-            Some(i) => Some(self.pairs[i].job),
+        match self.jobs.get(&id.get()) {
+            Some(job) => Some(Job(*job)),
             None => None,
         }
     }
@@ -67,10 +70,20 @@ impl Owners {
         requires spare { 0 < self.old.spare }
         requires fits { length self.old.list + 1 < 2 ^ 32 }
         requires free { owner_among self.old.list id ≡ None }
-        ensures list { self.new.list ≡ self.old.list ++ (id, job) ∷ [] }
+        ensures gains { Gains self.old.list self.new.list id job }
         ensures spare { self.new.spare + 1 ≡ self.old.spare }
+        ensures len { length self.new.list ≡ length self.old.list + 1 }
     {
-        self.pairs.push_reserved(Owned { id, job });
+        let i = place(&self.pairs, id.get(), job.0 as u64);
+        match self.pairs.insert(i, (id, job)) {
+            Ok(()) => {}
+            Err(_) => unreachable!(),
+        }
+        match self.jobs.insert(id.get(), job.0) {
+            Ok(_) => {}
+            Err(_) => unreachable!(),
+        }
+        self.spare -= 1;
     }
 
     pub fn disown(&mut self, id: ObjectId)
@@ -79,64 +92,50 @@ impl Owners {
         ensures spare { self.old.spare ≤ self.new.spare }
         ensures len { length self.new.list ≤ length self.old.list }
     {
-        match place(&self.pairs, id) {
-            Some(i) => {
+        let number = id.get();
+        match self.jobs.remove(&number) {
+            Some(job) => {
+                let i = place(&self.pairs, number, job as u64);
                 self.pairs.remove(i);
             }
             None => {}
         }
     }
 
-    /// The owned objects with their jobs.
-    pub fn pairs(&self) -> &[Owned]
-        ensures list { map pair_of result.now ≡ self.now.list }
+    /// The owned object at this place with its job, by rising job and then by rising id.
+    pub fn at(&self, i: usize) -> Option<(ObjectId, Job)>
+        ensures value { result ≡ slice_get self.now.list i }
+        ensures fits { length self.now.list < 2 ^ 32 }
+        ensures rise { IsTrue (rise_pairs self.now.list) }
         ensures apart { IsTrue (are_apart_pairs self.now.list) }
     {
-        &self.pairs
-    }
-
-    /// The least id that the job owns.
-    pub fn least(&self, job: Job) -> Option<ObjectId>
-        ensures value { result ≡ least_among job self.now.list }
-        ensures apart { IsTrue (are_apart_pairs self.now.list) }
-    {
-        let mut least = None;
-        for pair in &self.pairs {
-            least = lesser(least, pair, job);
-        }
-        least
+        self.pairs.get(i).copied()
     }
 
     /// How many objects the job owns.
     pub fn owned(&self, job: Job) -> u32
         ensures { result ≡ owned_among self.now.list job }
     {
-        self.pairs.iter().filter(|pair| pair.job.0 == job.0).count() as u32
+        let start = place(&self.pairs, 0, job.0 as u64);
+        let end = place(&self.pairs, 0, job.0 as u64 + 1);
+        (end - start) as u32
     }
 }
 
-/// The lesser of what was found and this id, where the job owns it.
-fn lesser(least: Option<ObjectId>, pair: &Owned, job: Job) -> Option<ObjectId>
-    ensures { result ≡ with_pair job least (pair_of pair.now) }
+/// The place of the first pair that is not before this one.
+fn place(pairs: &VecDeque<(ObjectId, Job)>, id: u64, job: u64) -> usize
+    requires { IsTrue (rise_pairs pairs.now.items) }
+    ensures bound { result ≤ length pairs.now.items }
+    ensures before { (k : ℕ) (d : ℕ × ℕ) → k < result → is_before_pair job id (slice_index_or pairs.now.items k d) ≡ true }
+    ensures after { (k : ℕ) (d : ℕ × ℕ) → result ≤ k → k < length pairs.now.items → is_before_pair job id (slice_index_or pairs.now.items k d) ≡ false }
 {
-    if pair.job.0 != job.0 {
-        return least;
-    }
-    match least {
-        Some(id) => {
-            if id.get() <= pair.id.get() {
-                least
-            } else {
-                Some(pair.id)
-            }
-        }
-        None => Some(pair.id),
-    }
+    pairs.partition_point(|pair| is_before(pair, id, job))
 }
 
-/// The place of an owned id.
-fn place(pairs: &[Owned], id: ObjectId) -> Option<usize>
-    ensures { result ≡ position (is_owned_id id) pairs.now }
+/// Whether the pair is before this id and job.
+fn is_before(pair: &(ObjectId, Job), id: u64, job: u64) -> bool
+    ensures { result ≡ is_before_pair job id pair.now }
 {
-    pairs.iter().position(|pair| pair.id.get() == id.get())
+    let other = pair.1.0 as u64;
+    other < job || (other == job && pair.0.get() < id)
 }

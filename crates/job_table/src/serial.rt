@@ -1,4 +1,4 @@
-ghost use Rattle.std.specs.Prelude.{◌≡◌, ◌<◌, ◌≤◌, ◌^◌, ◌&&◌, ◌||◌, not, None, Some, ℕ, nat_lt, ◌+◌, IsTrue};
+ghost use Rattle.std.specs.Prelude.{◌≡◌, ◌<◌, ◌≤◌, ◌^◌, ◌&&◌, ◌||◌, not, None, Some, ℕ, nat_lt, ◌+◌, find, IsTrue};
 ghost use Rattle.std.specs.List.{position, list_any};
 ghost use Rattle.delf_model.specs.State.{State, first_of_two};
 ghost use Rattle.delf_model.specs.Order.{first_put as put_of_state, first_erasure as erasure_of_state, first_expiry as expiry_of_state, first_purge as purge_of_state, first_step, is_no_older, put_of as put_of_place, last_place, cut_or_erase as cut_or_erase_of};
@@ -7,7 +7,8 @@ ghost use Rattle.job_table.specs.Apart.{are_apart};
 ghost use Rattle.job_table.specs.Items.{is_unhandled_of};
 ghost use Rattle.delf_model.specs.Graph.{out_edges, in_edges};
 ghost use Rattle.delf_model.specs.declared.entry.What.{What};
-ghost use Rattle.job_table.specs.Serial.{owns_in, left_in as left_of_row, restoring_in, is_elder as is_elder_row, is_oldest_in, purges_in, least_among, erasure_of_least};
+ghost use Rattle.job_table.specs.Serial.{left_in as left_of_row, restoring_in, is_elder as is_elder_row, is_oldest_in, purges_in};
+ghost use Rattle.job_table.specs.Owning.{has_row, pairs_rise};
 
 use crate::items::Items;
 use crate::jobs::Row;
@@ -65,12 +66,6 @@ fn place_of_oldest(rows: &[Row], items: &Items) -> Option<usize>
     ensures { result ≡ position (is_oldest_in rows.now items.now.list) rows.now }
 {
     rows.iter().position(|row| is_oldest(rows, items, row))
-}
-
-fn place_of_owner(rows: &[Row], owners: &Owners) -> Option<usize>
-    ensures { result ≡ position (owns_in owners.now.list) rows.now }
-{
-    rows.iter().position(|row| owners.owned(row.start) > 0)
 }
 
 fn is_over(owners: &Owners, items: &Items, window: u32, moment: Moment, row: &Row) -> bool
@@ -171,20 +166,30 @@ impl JobTable {
     fn first_erasure<G: GraphStore>(&self, graph: &G) -> Option<What>
         ensures { (s : State) → IsTableOf s self.now → G.graph graph.now ≡ s.graph → result ≡ erasure_of_state s }
     {
-        let rows = self.jobs.rows();
-        match place_of_owner(rows, &self.owners) {
-            Some(i) => self.erasure_of(graph, rows[i].start),
+        match self.first_owned() {
+            Some(pair) => Some(cut_or_erase(graph, pair.1, pair.0)),
             None => None,
         }
     }
 
-    fn erasure_of<G: GraphStore>(&self, graph: &G, job: Job) -> Option<What>
-        ensures value { result ≡ erasure_of_least job (G.graph graph.now) (least_among job self.now.owners) }
+    /// The least owned object of the oldest job that owns any, with that job. Each owner has a row, so the first look
+    /// finds it.
+    fn first_owned(&self) -> Option<(ObjectId, Job)>
+        ensures value { result ≡ find (has_row self.now.jobs) self.now.owners }
+        ensures rise { IsTrue (pairs_rise self.now.owners) }
         ensures apart { IsTrue (are_apart self.now.owners) }
     {
-        match self.owners.least(job) {
-            Some(id) => Some(cut_or_erase(graph, job, id)),
-            None => None,
+        let mut i = 0;
+        'pairs: loop {
+            match self.owners.at(i) {
+                None => return None,
+                Some(pair) => {
+                    if self.jobs.row(pair.1).is_some() {
+                        return Some(pair);
+                    }
+                    i += 1;
+                }
+            }
         }
     }
 

@@ -90,7 +90,7 @@ returns-in-Delete-clause-table g c =
       edges = g.met.G.GraphStore.edges_in_order c.args.graph.now;
       ends = g.met.G.GraphStore.ends_stand c.args.graph.now;
     } in
-    delete_applied s c.args.entry.now c.args.self.now _ _ _ h i o l c.in-Delete.tag c.in-Delete.id c.in-Delete.name _ c.in-Delete.is c.note_start.ensures
+    delete_applied s c.args.entry.now c.args.self.now _ _ _ h i o l c.in-Delete.tag c.in-Delete.id c.in-Delete.name _ c.in-Delete.is c.note_start.ensures.same c.note_start.ensures.gains
 
 pub returns-in-Restore-clause-table : goal.returns-in-Restore-clause-table
 returns-in-Restore-clause-table g c =
@@ -110,7 +110,7 @@ returns-in-Expire-clause-table g c =
       edges = g.met.G.GraphStore.edges_in_order c.args.graph.now;
       ends = g.met.G.GraphStore.ends_stand c.args.graph.now;
     } in
-    expire_applied s c.args.entry.now c.args.self.now _ _ _ h i o l c.in-Expire.id _ c.in-Expire.is c.note_start-in-Expire.ensures
+    expire_applied s c.args.entry.now c.args.self.now _ _ _ h i o l c.in-Expire.id _ c.in-Expire.is c.note_start-in-Expire.ensures.same c.note_start-in-Expire.ensures.gains
 
 pub returns-in-Purge-clause-table : goal.returns-in-Purge-clause-table
 returns-in-Purge-clause-table g c =

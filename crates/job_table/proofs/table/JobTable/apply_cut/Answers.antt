@@ -43,7 +43,7 @@ returns-then-passes-clause-table g c =
     } in
     cut_passing_applied s c.args.entry.now c.args.job c.args.key.now c.args.self.now _ _ _ c.requires.is h i o l _ c.cut_item-item.result
     (cut_logged s c.args.entry.now c.args.job c.args.key.now c.args.self.now _ _ _ c.requires.is h i o l c.cut_item-item.result c.cut_item-item.ensures)
-    (sym (c.passes.ensures s h) ∙ c.if-passes.true) c.note_passing.ensures
+    (sym (c.passes.ensures s h) ∙ c.if-passes.true) c.note_passing.ensures.same c.note_passing.ensures.gains
 
 pub note_item-requires-clause-owed : goal.note_item-requires-clause-owed
 note_item-requires-clause-owed g c =

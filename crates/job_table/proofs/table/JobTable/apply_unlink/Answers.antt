@@ -24,7 +24,7 @@ returns-then-takes_last_reference-clause-table g c =
       ends = g.met.G.GraphStore.ends_stand c.args.graph.now;
     } in
     unlink_started_applied s c.args.entry.now c.args.tag.now c.args.key.now c.args.name c.args.self.now _ _ _ c.requires.is h i o l _
-    (sym c.takes_last_reference.ensures ∙ c.if-takes_last_reference.true) c.note_start.ensures
+    (sym c.takes_last_reference.ensures ∙ c.if-takes_last_reference.true) c.note_start.ensures.same c.note_start.ensures.gains
 
 pub returns-clause-table : goal.returns-clause-table
 returns-clause-table g c =

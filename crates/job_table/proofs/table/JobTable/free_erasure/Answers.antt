@@ -1,21 +1,35 @@
-use Rattle.std.proofs.Common.{◌∙◌, ap}
-use Rattle.std.specs.List.{position}
+use Rattle.std.proofs.Common.{◌∙◌, ap, arith}
+use Rattle.std.specs.Prelude.{slice_get}
 use Rattle.job_table.specs.Table.{Table}
-use Rattle.job_table.specs.Free.{has_free_owned, free_step}
-use Rattle.job_table.specs.Parts.{pair_of}
-use Rattle.job_table.proofs.FreeSteps.{free_found, free_nowhere}
+use Rattle.job_table.specs.Free.{free_step}
+use Rattle.job_table.proofs.FreeSteps.{free_here, free_past, free_over, within}
 use Rattle.job_table.proofs.table.JobTable.free_erasure.Goals as goal
-
-pub returns-in-Some-clause-value : goal.returns-in-Some-clause-value
-returns-in-Some-clause-value g c =
-    free_found (g.G.GraphStore.graph c.args.graph.now) c.args.self.now.held c.pairs-pairs.result.now c.args.self.now.owners c.in-Some.i c.index-pairs-i.result c.free_step.result
-    (c.pairs-pairs.ensures.list ∙ ap (λ (t : Table). t.owners) c.self.view_is)
-    (c.in-Some.ensures ∙ ap (λ (t : Table). position (has_free_owned (g.G.GraphStore.graph c.args.graph.now) t.held) c.pairs-pairs.result.now) c.self.view_is)
-    c.index-pairs-i.is
-    (c.free_step.ensures ∙ ap (λ (t : Table). free_step (g.G.GraphStore.graph c.args.graph.now) t.held (pair_of c.index-pairs-i.result)) c.self.view_is)
 
 pub returns-in-None-clause-value : goal.returns-in-None-clause-value
 returns-in-None-clause-value g c =
-    free_nowhere (g.G.GraphStore.graph c.args.graph.now) c.args.self.now.held c.pairs-pairs.result.now c.args.self.now.owners
-    (c.pairs-pairs.ensures.list ∙ ap (λ (t : Table). t.owners) c.self.view_is)
-    (c.in-None.ensures ∙ ap (λ (t : Table). position (has_free_owned (g.G.GraphStore.graph c.args.graph.now) t.held) c.pairs-pairs.result.now) c.self.view_is)
+    free_over (g.G.GraphStore.graph c.args.graph.now) c.args.self.now.held c.args.self.now.owners c.pairs.i c.pairs.invariant
+    (c.in-None.ensures.value ∙ ap (λ (t : Table). slice_get t.owners c.pairs.i) c.self.view_is)
+
+pub returns-then-is_some-clause-value : goal.returns-then-is_some-clause-value
+returns-then-is_some-clause-value g c =
+    free_here (g.G.GraphStore.graph c.args.graph.now) c.args.self.now.held c.args.self.now.owners c.pairs.i c.in-Some.pair c.free_step-step.result c.is_some.result c.pairs.invariant
+    (c.in-Some.ensures.value ∙ ap (λ (t : Table). slice_get t.owners c.pairs.i) c.self.view_is)
+    (c.free_step-step.ensures ∙ ap (λ (t : Table). free_step (g.G.GraphStore.graph c.args.graph.now) t.held c.in-Some.pair) c.self.view_is)
+    c.is_some.ensures c.if-is_some.true
+
+pub overflow_add-i : goal.overflow_add-i
+overflow_add-i g c =
+    let l = within c.self.inside.owners.list c.pairs.i c.in-Some.pair c.in-Some.ensures.value in
+    omega (arith, l, c.in-Some.ensures.fits)
+
+pub pairs-smaller : goal.pairs-smaller
+pairs-smaller g c =
+    let l = within c.args.self.now.owners c.pairs.i c.in-Some.pair (c.in-Some.ensures.value ∙ ap (λ (t : Table). slice_get t.owners c.pairs.i) c.self.view_is) in
+    omega (arith, l)
+
+pub pairs-preserved : goal.pairs-preserved
+pairs-preserved g c =
+    free_past (g.G.GraphStore.graph c.args.graph.now) c.args.self.now.held c.args.self.now.owners c.pairs.i c.in-Some.pair c.free_step-step.result c.is_some.result c.pairs.invariant
+    (c.in-Some.ensures.value ∙ ap (λ (t : Table). slice_get t.owners c.pairs.i) c.self.view_is)
+    (c.free_step-step.ensures ∙ ap (λ (t : Table). free_step (g.G.GraphStore.graph c.args.graph.now) t.held c.in-Some.pair) c.self.view_is)
+    c.is_some.ensures c.if-is_some.false
