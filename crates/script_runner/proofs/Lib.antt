@@ -1,6 +1,8 @@
+pub mod Counts
 pub mod Documents
-pub mod Sources
+pub mod Loops
+pub mod Numbered
+pub mod Refusals
 pub mod Scripts
-pub mod Rows
-pub mod Creates
-pub mod Shows
+pub mod Sources
+pub mod Starts

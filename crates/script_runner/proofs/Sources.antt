@@ -4,7 +4,7 @@ use Rattle.script_runner.specs.declared.status.Status.{Status}
 use Rattle.script_runner.specs.declared.status.Status.TheVariants.{Done, Usage, BadDocument, ReadFault, WriteFault, OutOfMemory}
 use Rattle.script_runner.specs.declared.document.Document.{Document}
 use Rattle.script_runner.specs.Documents.{IsDocument, IsNoDocument}
-use Rattle.script_runner.specs.Serial.{first_world}
+use Rattle.script_runner.specs.Worlds.{first_world}
 use Rattle.script_runner.specs.Outcomes.{RunsDocument, BytesText, BytesCause, SourceText, SourceCause, ScriptText, ScriptCause, IsSomeDocument}
 
 -- what was read is all that was left, where it is short enough to be a document
