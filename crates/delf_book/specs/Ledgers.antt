@@ -1,4 +1,6 @@
-use Rattle.std.specs.Prelude.{◌≡◌, ◌≤◌, ◌+◌, ℕ, Bool, true, ◌&&◌, nat_lt, List, [], ◌∷◌, ◌++◌, Option, Some, None, slice_get}
+use Rattle.std.specs.Prelude.{◌≡◌, ◌≤◌, ◌+◌, ℕ, Bool, true, ◌&&◌, nat_lt, List, [], ◌∷◌, ◌++◌, Option, Some, None, length, slice_get}
+use Rattle.delf_model.specs.declared.call.Call.{Call}
+use Rattle.delf_model.specs.declared.call.Call.TheVariants as call
 use Rattle.delf_model.specs.declared.entry.Entry.{Entry}
 use Rattle.delf_model.specs.declared.entry.What.{What}
 use Rattle.delf_model.specs.declared.entry.What.TheVariants.{Create, Update, Link, Unlink, Delete, Restore, Expire, Cut, Erase, Put, Purge}
@@ -69,3 +71,12 @@ pub record HasEntered {G : Type 0} (old now : Ledgered G) (entry : Entry) : Type
   pub history : now.history ≡ old.history ++ entry ∷ []
   pub held : now.held ≡ old.held
   pub spare : old.spare ≤ now.spare + 1
+
+-- whether the type number of a Create and the edge number of a Link are below the counts of the rules
+abbrev pub is_numbered_call : RuleSet → Call → Bool
+is_numbered_call rules (call.Create kind id payload) = nat_lt kind (length rules.objects)
+is_numbered_call rules (call.Update id payload) = true
+is_numbered_call rules (call.Link edge from to payload) = nat_lt edge (length rules.edges)
+is_numbered_call rules (call.Unlink edge from to name) = true
+is_numbered_call rules (call.Delete id name) = true
+is_numbered_call rules (call.Restore name) = true

@@ -21,3 +21,4 @@ pub mod Puts
 pub mod FreeSteps
 pub mod NextSteps
 pub mod Owning
+pub mod Rising

@@ -1,4 +1,4 @@
-use Rattle.std.specs.Prelude.{ℕ, Bool, cond, nat_eq, List, [], ◌∷◌, option_map}
+use Rattle.std.specs.Prelude.{ℕ, Bool, cond, nat_eq, nat_lt, List, [], ◌∷◌, option_map}
 use Rattle.delf_model.specs.declared.entry.What.{What}
 use Rattle.delf_model.specs.State.{Handled, Logged, JobRow}
 use Rattle.job_table.specs.declared.items.Handling.{Handling}
@@ -52,3 +52,6 @@ changed_first test f (x ∷ xs) = cond (test x) (f x ∷ xs) (x ∷ changed_firs
 
 abbrev pub is_start : ℕ → Row → Bool
 is_start job row = nat_eq row.start job
+
+abbrev pub starts_before : ℕ → Row → Bool
+starts_before job row = nat_lt row.start job

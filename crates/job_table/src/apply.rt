@@ -5,7 +5,7 @@ ghost use Rattle.delf_model.specs.Graph.{edge_at, edge_stands, stands};
 ghost use Rattle.delf_model.specs.declared.rows.EdgeRow.{EdgeRow};
 ghost use Rattle.delf_model.specs.State.{State, step, owner, judged as judgement_of, birth_of, is_job, first_of_two, end_cause, key_taken};
 ghost use Rattle.delf_model.specs.Legal.{is_legal};
-ghost use Rattle.job_table.specs.Table.{IsTableOf, IsGraphOf, MayApply, owner_among, owned_among};
+ghost use Rattle.job_table.specs.Table.{IsTableOf, IsGraphOf, MayApply, owner_among, owned_among, starts_rise};
 ghost use Rattle.job_table.specs.Owning.{Gains};
 ghost use Rattle.job_table.specs.Notes.{noted, noted_start, noted_restore, noted_purge, noted_item, noted_put, with_seat, weight_of, item_weight as weight_of_item, put_weight as weight_of_put, condemns_before, takes_last};
 
@@ -203,6 +203,7 @@ impl JobTable {
         requires some { 1 ≤ less }
         requires owed { less ≤ self.old.owed }
         requires free { owner_among self.old.owners root ≡ None }
+        requires rise { IsTrue (starts_rise 0 self.old.len self.old.jobs) }
         ensures same { self.new ≡ record (noted_start self.old moment seat root name (self.old.owed - less)) { owners = self.new.owners } }
         ensures gains { Gains self.old.owners self.new.owners root self.old.len }
     {

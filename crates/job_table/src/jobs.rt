@@ -1,6 +1,8 @@
-ghost use Rattle.std.specs.Prelude.{◌≡◌, ◌+◌, ◌<◌, ◌≤◌, ◌^◌, ◌++◌, ◌∷◌, [], OnOk, length, slice_get, option_map, map, cond, Some};
+ghost use Rattle.std.specs.Prelude.{◌≡◌, ◌+◌, ◌<◌, ◌≤◌, ◌^◌, ◌++◌, ◌∷◌, [], OnOk, length, slice_get, slice_index_or, option_map, map, cond, false, true, Some, ℕ, IsTrue};
 ghost use Rattle.std.specs.List.{position};
-ghost use Rattle.job_table.specs.Parts.{row_of, changed_first, is_start};
+ghost use Rattle.job_table.specs.Parts.{row_of, changed_first, is_start, starts_before};
+ghost use Rattle.job_table.specs.declared.jobs.Row.{Row as RowValue};
+ghost use Rattle.job_table.specs.Table.{starts_rise};
 ghost use Rattle.delf_model.specs.State.{job_row, find_job, new_job, starts_at, restored_at, purged_if, erased_at};
 ghost use Rattle.delf_model.specs.State.{same_name as is_same_name};
 
@@ -27,14 +29,15 @@ pub struct Jobs {
 }
 
 impl Model for Jobs {
-    ghost use Rattle.std.specs.Prelude.{◌-◌, ◌<◌, ◌^◌, map, vec_len, vec_capacity};
+    ghost use Rattle.std.specs.Prelude.{◌-◌, ◌<◌, ◌^◌, map, vec_len, vec_capacity, IsTrue};
     ghost use Rattle.job_table.specs.Parts.{JobPart, row_of};
+    ghost use Rattle.job_table.specs.Table.{starts_rise};
 
     ghost Value = { JobPart };
 
     ghost view = { λ l. record { list = map row_of l.rows.items; spare = vec_capacity l.rows - vec_len l.rows } };
 
-    ghost invariant = { λ l. vec_len l.rows < 2 ^ 32 };
+    ghost invariant = { λ l. (vec_len l.rows < 2 ^ 32) × IsTrue (starts_rise 0 4294967296 (map row_of l.rows.items)) };
 }
 
 impl Jobs {
@@ -58,6 +61,8 @@ impl Jobs {
     pub fn start(&mut self, start: Job, root: ObjectId, name: JobName)
         requires spare { 0 < self.old.spare }
         requires fits { length self.old.list + 1 < 2 ^ 32 }
+        requires rise { IsTrue (starts_rise 0 start self.old.list) }
+        requires below { start < 2 ^ 32 }
         ensures list { self.new.list ≡ self.old.list ++ new_job start root name ∷ [] }
         ensures spare { self.new.spare + 1 ≡ self.old.spare }
     {
@@ -147,11 +152,35 @@ fn later(found: Option<Job>, row: &Row, name: &JobName) -> Option<Job>
     found
 }
 
-/// The place of the job that starts at this position.
+/// The place of the job that starts at this position; rows go by rising start.
 fn place(rows: &[Row], job: Job) -> Option<usize>
+    requires { IsTrue (starts_rise 0 4294967296 (map row_of rows.now)) }
     ensures { result ≡ position (is_start job) rows.now }
 {
-    rows.iter().position(|row| row.start.0 == job.0)
+    let i = place_from(rows, job);
+    if i == rows.len() {
+        return None;
+    }
+    if is_job(&rows[i], job) {
+        return Some(i);
+    }
+    None
+}
+
+fn is_job(row: &Row, job: Job) -> bool
+    ensures { result ≡ is_start job row.now }
+{
+    row.start.0 == job.0
+}
+
+/// The place of the first row that starts no earlier than this.
+fn place_from(rows: &[Row], job: Job) -> usize
+    requires { IsTrue (starts_rise 0 4294967296 (map row_of rows.now)) }
+    ensures bound { result ≤ length rows.now }
+    ensures before { (k : ℕ) (d : RowValue) → k < result → starts_before job (slice_index_or rows.now k d) ≡ true }
+    ensures after { (k : ℕ) (d : RowValue) → result ≤ k → k < length rows.now → starts_before job (slice_index_or rows.now k d) ≡ false }
+{
+    rows.partition_point(|row| row.start.0 < job.0)
 }
 
 fn same_name(a: &JobName, b: &JobName) -> bool

@@ -71,6 +71,9 @@ fn place_of_oldest(rows: &[Row], items: &Items) -> Option<usize>
 fn is_over(owners: &Owners, items: &Items, window: u32, moment: Moment, row: &Row) -> bool
     ensures { result ≡ purges_in owners.now.list items.now.list window moment row.now }
 {
+    if row.purged {
+        return false;
+    }
     owners.owned(row.start) == 0
         && !row.purged
         && left(items, row) == 0

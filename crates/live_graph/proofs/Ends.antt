@@ -1,14 +1,14 @@
 -- Each edge still has both its ends after a change.
-use Rattle.std.proofs.Common.{◌≡◌, ℕ, Bool, true, false, cond, not, ◌&&◌, ◌||◌, eqb, map, Option, Some, None, List, [], ◌∷◌, refl, sym, ap, ◌∙◌, arith}
+use Rattle.std.proofs.Common.{◌≡◌, ℕ, Bool, true, false, cond, ◌||◌, eqb, map, Option, Some, None, List, [], ◌∷◌, refl, ap, ◌∙◌, arith}
 use Rattle.std.proofs.lemmas.Bool.Decides.{nat_tests}
 use Rattle.std.proofs.lemmas.Bool.{and_parts, and_from}
 use Rattle.std.specs.Prelude.{find, filter, is_some}
 use Rattle.std.specs.Option.{option_map}
-use Rattle.std.specs.List.{list_any, list_all}
+use Rattle.std.specs.List.{list_any}
 use Rattle.delf_model.specs.declared.rows.ObjectRow.{ObjectRow}
 use Rattle.delf_model.specs.declared.rows.EdgeRow.{EdgeRow}
 use Rattle.delf_model.specs.declared.rows.EdgeKey.{EdgeKey}
-use Rattle.delf_model.specs.Graph.{has_id, same_key, key_before, put_object, put_edge, is_other_object, is_other_edge, rewritten, touches_row, is_touched}
+use Rattle.delf_model.specs.Graph.{has_id, same_key, key_before, put_object, put_edge, is_other_object, is_other_edge, rewritten, touches_row}
 use Rattle.delf_model.proofs.Graphs.{find-put_object, find-filter_object, find-rewritten}
 use Rattle.live_graph.specs.Ends.{has_row, has_ends, all_have_ends}
 

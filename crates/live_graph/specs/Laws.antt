@@ -1,5 +1,5 @@
 -- Both ends of each edge stand, from the test over all edges.
-use Rattle.std.proofs.Common.{◌≡◌, ℕ, Bool, true, false, cond, Option, Some, List, [], ◌∷◌, refl, ap, sym, ◌∙◌}
+use Rattle.std.proofs.Common.{◌≡◌, Bool, true, false, cond, Option, Some, List, [], ◌∷◌, refl, ap, sym, ◌∙◌}
 use Rattle.std.proofs.lemmas.Bool.{and_parts}
 use Rattle.std.specs.Prelude.{find, is_some, IsTrue}
 use Rattle.delf_model.specs.declared.rows.ObjectRow.{ObjectRow}

@@ -1,8 +1,16 @@
-use Rattle.std.proofs.Common.{Bool, cond, Some, sym, ap}
+use Rattle.std.proofs.Common.{Bool, cond, Some, sym, refl, ap}
 use Rattle.delf_model.specs.State.{erased_at}
 use Rattle.job_table.specs.Parts.{row_of}
+use Rattle.job_table.proofs.Rising.{rise_changed}
 use Rattle.job_table.proofs.Places.{change_some, change_none}
 use Rattle.job_table.proofs.jobs.Jobs.erase.Goals as goal
+
+pub invariant_of-self : goal.invariant_of-self
+invariant_of-self c = (
+  c.self.invariant.0,
+  rise_changed c.self.inside.rows.items c.deref.result.now c.args.job c.in-Some.i c.index_mut.result.now (record c.index_mut.result.now { last = Some c.args.moment })
+      c.deref.ensures.value c.in-Some.ensures c.index_mut.ensures.value refl c.self.invariant.1,
+)
 
 pub returns-in-Some-clause-list : goal.returns-in-Some-clause-list
 returns-in-Some-clause-list c =

@@ -1,4 +1,5 @@
 use Rattle.job_table.proofs.Steps.{Ordered}
+use Rattle.job_table.proofs.Rising.{rise_told}
 use Rattle.job_table.proofs.Applied.{create_applied, create_room, update_applied, update_room, link_applied, link_room, delete_applied, restore_applied, restore_room, expire_applied, purge_applied, purge_enough}
 use Rattle.job_table.proofs.table.JobTable.apply.Goals as goal
 
@@ -121,3 +122,9 @@ returns-in-Purge-clause-table g c =
       ends = g.met.G.GraphStore.ends_stand c.args.graph.now;
     } in
     purge_applied s c.args.entry.now c.args.self.now _ _ _ h i o l c.in-Purge.job _ c.in-Purge.is c.note_purge.ensures
+
+pub note_start-requires-clause-rise : goal.note_start-requires-clause-rise
+note_start-requires-clause-rise g c = let m = c.requires.legal in rise_told m.0 c.args.self.now m.1
+
+pub note_start-requires-in-Expire-clause-rise : goal.note_start-requires-in-Expire-clause-rise
+note_start-requires-in-Expire-clause-rise g c = let m = c.requires.legal in rise_told m.0 c.args.self.now m.1

@@ -1,5 +1,6 @@
 use Rattle.std.proofs.Common.{◌∙◌, sym}
 use Rattle.job_table.proofs.Steps.{Ordered}
+use Rattle.job_table.proofs.Rising.{rise_told}
 use Rattle.job_table.proofs.Applied.{unlink_started_applied, unlink_started_enough, unlink_plain_applied}
 use Rattle.job_table.proofs.table.JobTable.apply_unlink.Goals as goal
 
@@ -36,3 +37,6 @@ returns-clause-table g c =
     } in
     unlink_plain_applied s c.args.entry.now c.args.tag.now c.args.key.now c.args.name c.args.self.now _ _ _ c.requires.is h i o l _
     (sym c.takes_last_reference.ensures ∙ c.if-takes_last_reference.false) c.note_unlink.ensures
+
+pub note_start-requires-clause-rise : goal.note_start-requires-clause-rise
+note_start-requires-clause-rise g c = let m = c.requires.legal in rise_told m.0 c.args.self.now m.1

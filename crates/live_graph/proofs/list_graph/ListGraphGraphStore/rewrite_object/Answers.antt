@@ -1,4 +1,4 @@
-use Rattle.std.proofs.Common.{◌≡◌, true, List, length, ◌++◌, take, drop, map, sym, ap, subst, ◌∙◌, arith}
+use Rattle.std.proofs.Common.{◌≡◌, true, List, length, ◌++◌, take, drop, map, sym, ap, subst, ◌∙◌}
 use Rattle.delf_model.specs.declared.rows.ObjectRow.{ObjectRow}
 use Rattle.delf_model.specs.Graph.{objects_rise, rewritten}
 use Rattle.live_graph.specs.Ends.{all_have_ends}
