@@ -1,0 +1,4 @@
+pub mod TypeNumberLemmas
+pub mod ScriptLemmas
+pub mod GeneratedLemmas
+pub mod FormLemmas
