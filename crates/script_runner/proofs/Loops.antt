@@ -1,21 +1,24 @@
 -- A text that grows line by line, steps that are made one by one, and jobs found by their start.
-use Rattle.std.proofs.Common.{◌≡◌, ℕ, zero, suc, ◌+◌, ◌-◌, ◌≤◌, ◌<◌, Bool, true, false, cond, eqb, Option, Some, None, List, [], ◌∷◌, ◌++◌, length, get_or, take, flat_map, refl, sym, ap, subst, ◌∙◌, arith}
-use Rattle.std.proofs.lemmas.List.{take_more, flat_map_more}
+use Rattle.std.proofs.Common.{◌≡◌, ℕ, zero, suc, ◌+◌, ◌≤◌, ◌<◌, Bool, true, false, cond, eqb, Option, Some, None, List, [], ◌∷◌, ◌++◌, length, get_or, take, flat_map, refl, sym, ap, ◌∙◌, arith, add-one, append-nil}
+use Rattle.std.proofs.lemmas.List.{take_more, flat_map_more, length-take, length-map}
 use Rattle.std.proofs.lemmas.Bool.{eqb-true, eq-eqb}
-use Rattle.std.specs.Prelude.{find, map, slice_get, is_some}
+use Rattle.std.specs.Prelude.{find, map, slice_get, option_to_list}
 use Rattle.delf_model.specs.declared.entry.What.{What}
 use Rattle.delf_model.specs.declared.call.JobLine.{JobLine}
 use Rattle.delf_model.specs.State.{State, JobRow, job_row, starts_at}
 use Rattle.delf_model.specs.Report.{job_line, job_at, line_of_row}
-use Rattle.script_runner.specs.Worlds.{World, with_entry}
+use Rattle.script_runner.specs.Worlds.{World}
 use Rattle.script_runner.specs.Serial.{next_step, after_step, world_worked}
 
 -- an element more, known by its place
 
+slice_suc : {A : Type 0} (xs : List A) (i : ℕ) (x : A) → slice_get xs i ≡ Some x → take (suc i) xs ≡ take i xs ++ x ∷ []
+slice_suc [] i x is = absurd (cc is)
+slice_suc (y ∷ ys) zero x is = let same : y ≡ x = cc in ap (λ (z : _). z ∷ []) same
+slice_suc (y ∷ ys) (suc i) x is = ap (λ (zs : List _). y ∷ zs) (slice_suc ys i x is)
+
 slice_more : {A : Type 0} (xs : List A) (i : ℕ) (x : A) → slice_get xs i ≡ Some x → take (i + 1) xs ≡ take i xs ++ x ∷ []
-slice_more [] i x is = absurd (cc is)
-slice_more (y ∷ ys) zero x is = let same : y ≡ x = cc in ap (λ (z : _). z ∷ []) same
-slice_more (y ∷ ys) (suc i) x is = ap (λ (zs : List _). y ∷ zs) (slice_more ys i x is)
+slice_more xs i x is = ap (λ (n : ℕ). take n xs) (add-one i) ∙ slice_suc xs i x is
 
 pub slice_past : {A : Type 0} (xs : List A) (i : ℕ) → slice_get xs i ≡ None → take i xs ≡ xs
 slice_past [] zero is = refl
@@ -84,31 +87,56 @@ map_past s [] i is = refl
 map_past s (x ∷ xs) zero is = absurd (cc is)
 map_past s (x ∷ xs) (suc i) is = map_past s xs i is
 
-pub lines_end : (s : State) (i : ℕ) → None ≡ job_at s i → take i (map (job_line s) s.jobs) ≡ map (job_line s) s.jobs
-lines_end s i is = slice_past (map (job_line s) s.jobs) i (map_past s s.jobs i (past_at s (slice_get s.jobs i) (sym is)))
+-- past the last job there is none to add
+pub lines_past : (s : State) (i : ℕ) (before : List JobLine) → None ≡ job_at s i → before ≡ take i (map (job_line s) s.jobs) →
+    before ≡ take (i + 1) (map (job_line s) s.jobs)
+lines_past s i before is so_far =
+    let all = map (job_line s) s.jobs in
+    let past : take i all ≡ all = slice_past all i (map_past s s.jobs i (past_at s (slice_get s.jobs i) (sym is))) in
+    so_far ∙ past ∙ sym (take_past all (i + 1) (longer all i past))
+  where
+    longer : (all : List JobLine) (i : ℕ) → take i all ≡ all → length all ≤ i + 1
+    longer all i past = omega (arith, ap length past, length-take i all)
+
+pub lines_next : (s : State) (i : ℕ) (o : Option JobLine) (before after : List JobLine) → o ≡ job_at s i → before ≡ take i (map (job_line s) s.jobs) →
+    after ≡ before ++ option_to_list o → after ≡ take (i + 1) (map (job_line s) s.jobs)
+lines_next s i None before after is so_far next = next ∙ append-nil before ∙ lines_past s i before is so_far
+lines_next s i (Some line) before after is so_far next = lines_grow s i line before after is so_far next
+
+pub lines_all : (s : State) (n : ℕ) (lines : List JobLine) → length s.jobs ≤ n → lines ≡ take n (map (job_line s) s.jobs) → lines ≡ map (job_line s) s.jobs
+lines_all s n lines few so_far =
+    so_far ∙ take_past (map (job_line s) s.jobs) n (omega (arith, length-map s.jobs (job_line s)))
 
 -- a job found by its start, or not among the first ones
 
+none_suc : (p : JobRow → Bool) (rows : List JobRow) (i : ℕ) (row : JobRow) → slice_get rows i ≡ Some row → p row ≡ false →
+    find p (take i rows) ≡ None → find p (take (suc i) rows) ≡ None
+none_suc p [] i row is other before = absurd (cc is)
+none_suc p (x ∷ xs) zero row is other before = let same : x ≡ row = cc in ap (λ (b : Bool). cond b (Some x) None) (ap p same ∙ other)
+none_suc p (x ∷ xs) (suc i) row is other before = none_cons x (p x) (find p (take i xs)) (find p (take (suc i) xs)) (none_suc p xs i row is other) before
+  where
+    none_cons : (x : JobRow) (b : Bool) (found more : Option JobRow) → (found ≡ None → more ≡ None) → cond b (Some x) found ≡ None → cond b (Some x) more ≡ None
+    none_cons x true found more next none = absurd (cc none)
+    none_cons x false found more next none = next none
+
 none_more : (p : JobRow → Bool) (rows : List JobRow) (i : ℕ) (row : JobRow) → slice_get rows i ≡ Some row → p row ≡ false →
     find p (take i rows) ≡ None → find p (take (i + 1) rows) ≡ None
-none_more p [] i row is not before = absurd (cc is)
-none_more p (x ∷ xs) zero row is not before = let same : x ≡ row = cc in ap (λ (b : Bool). cond b (Some x) None) (ap p same ∙ not)
-none_more p (x ∷ xs) (suc i) row is not before = go (p x) refl before
-  where
-    go : (b : Bool) → p x ≡ b → cond b (Some x) (find p (take i xs)) ≡ None → cond (p x) (Some x) (find p (take (i + 1) xs)) ≡ None
-    go true e before = absurd (cc before)
-    go false e before = ap (λ (b : Bool). cond b (Some x) (find p (take (i + 1) xs))) e ∙ none_more p xs i row is not before
+none_more p rows i row is other before = ap (λ (n : ℕ). find p (take n rows)) (add-one i) ∙ none_suc p rows i row is other before
 
 found_here : (p : JobRow → Bool) (rows : List JobRow) (i : ℕ) (row : JobRow) → slice_get rows i ≡ Some row → p row ≡ true →
     find p (take i rows) ≡ None → find p rows ≡ Some row
-found_here p [] i row is yes before = absurd (cc is)
-found_here p (x ∷ xs) zero row is yes before = let same : x ≡ row = cc in
-    ap (λ (b : Bool). cond b (Some x) (find p xs)) (ap p same ∙ yes) ∙ ap (λ (r : JobRow). Some r) same
-found_here p (x ∷ xs) (suc i) row is yes before = go (p x) refl before
+found_here p [] i row is met before = absurd (cc is)
+found_here p (x ∷ xs) zero row is met before = let same : x ≡ row = cc in
+    ap (λ (b : Bool). cond b (Some x) (find p xs)) (ap p same ∙ met) ∙ ap (λ (r : JobRow). Some r) same
+found_here p (x ∷ xs) (suc i) row is met before = found_cons x row (p x) (find p (take i xs)) (find p xs) (found_here p xs i row is met) before
   where
-    go : (b : Bool) → p x ≡ b → cond b (Some x) (find p (take i xs)) ≡ None → cond (p x) (Some x) (find p xs) ≡ Some row
-    go true e before = absurd (cc before)
-    go false e before = ap (λ (b : Bool). cond b (Some x) (find p xs)) e ∙ found_here p xs i row is yes before
+    found_cons : (x row : JobRow) (b : Bool) (found more : Option JobRow) → (found ≡ None → more ≡ Some row) → cond b (Some x) found ≡ None → cond b (Some x) more ≡ Some row
+    found_cons x row true found more next none = absurd (cc none)
+    found_cons x row false found more next none = next none
+
+differ : (a b : ℕ) (c : Bool) → eqb a b ≡ c → (a ≡ b → ⊥) → c ≡ false
+differ a b true is unequal = absurd (unequal (eqb-true a b is))
+differ a b false is unequal = refl
 
 pub line_passed : (s : State) (i job : ℕ) (line : JobLine) (o : Option JobRow) → slice_get s.jobs i ≡ o → Some line ≡ line_of_row s o → (line.job ≡ job → ⊥) →
     job_row (take i s.jobs) job ≡ None → job_row (take (i + 1) s.jobs) job ≡ None
@@ -116,14 +144,7 @@ line_passed s i job line None at is other before = absurd (cc is)
 line_passed s i job line (Some row) at is other before =
     let same : line ≡ job_line s row = cc in
     let start : line.job ≡ row.start = ap (λ (l : JobLine). l.job) same in
-    none_more (starts_at job) s.jobs i row at (differ row.start job (λ e. other (start ∙ e))) before
-  where
-    differ : (a b : ℕ) → (a ≡ b → ⊥) → eqb a b ≡ false
-    differ a b no = go (eqb a b) refl
-      where
-        go : (c : Bool) → eqb a b ≡ c → c ≡ false
-        go true e = absurd (no (eqb-true a b e))
-        go false e = refl
+    none_more (starts_at job) s.jobs i row at (differ row.start job (eqb row.start job) refl (λ e. other (start ∙ e))) before
 
 pub line_met : (s : State) (i job : ℕ) (line : JobLine) (o : Option JobRow) → slice_get s.jobs i ≡ o → Some line ≡ line_of_row s o → line.job ≡ job →
     job_row (take i s.jobs) job ≡ None → Some line ≡ line_of_row s (job_row s.jobs job)
@@ -131,10 +152,7 @@ line_met s i job line None at is here before = absurd (cc is)
 line_met s i job line (Some row) at is here before =
     let same : line ≡ job_line s row = cc in
     let start : line.job ≡ row.start = ap (λ (l : JobLine). l.job) same in
-    is ∙ ap (line_of_row s) (sym (found_here (starts_at job) s.jobs i row at (equal row.start job (sym start ∙ here)) before))
-  where
-    equal : (a b : ℕ) → a ≡ b → eqb a b ≡ true
-    equal a b e = eq-eqb a b e
+    is ∙ ap (line_of_row s) (sym (found_here (starts_at job) s.jobs i row at (eq-eqb row.start job (sym start ∙ here)) before))
 
 pub line_missed : (s : State) (i job : ℕ) → None ≡ job_at s i → job_row (take i s.jobs) job ≡ None → None ≡ line_of_row s (job_row s.jobs job)
 line_missed s i job is before =

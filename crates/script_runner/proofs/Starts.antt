@@ -21,7 +21,9 @@ use Rattle.delf_model.proofs.Runs.{after_push}
 use Rattle.delf_model.proofs.Good.{good_after}
 use Rattle.delf_book.proofs.Entering.{len_after}
 use Rattle.script_runner.specs.Worlds.{World, state_of, now_of, with_entry}
-use Rattle.script_runner.specs.Serial.{answer, payload_of, started_name, restored_items}
+use Rattle.delf_model.specs.declared.schema.Schema.{Schema}
+use Rattle.job_report.specs.Texts.{unlinked_text, restoring_text}
+use Rattle.script_runner.specs.Serial.{answer, accepted_text, edge_name, payload_of, started_name, restored_items}
 
 last_of-assoc : (a b c : Option ℕ) → last_of (last_of a b) c ≡ last_of a (last_of b c)
 last_of-assoc None b c = refl
@@ -41,17 +43,18 @@ seen_later : (b : Bool) (x : JobRow) (rest : Option JobRow) → is_some rest ≡
 seen_later true x rest is = refl
 seen_later false x rest is = is
 
+meant_cons : (x : JobRow) (rest : Option JobRow) (job : ℕ) (b : Bool) (o : Option ℕ) → (o ≡ Some job → is_some rest ≡ true) →
+    last_of (cond b (Some x.start) None) o ≡ Some job → is_some (cond (eqb x.start job) (Some x) rest) ≡ true
+meant_cons x rest job true (Some other) later last = seen_later (eqb x.start job) x rest (later last)
+meant_cons x rest job false (Some other) later last = seen_later (eqb x.start job) x rest (later last)
+meant_cons x rest job true None later last =
+    let same : x.start ≡ job = cc last in
+    ap (λ (b : Bool). is_some (cond b (Some x) rest)) (eq-eqb x.start job same)
+meant_cons x rest job false None later last = absurd (cc last)
+
 meant_stands : (name : JobName) (rows : List JobRow) (job : ℕ) → find_job rows name ≡ Some job → is_some (job_row rows job) ≡ true
 meant_stands name [] job is = absurd (cc is)
-meant_stands name (x ∷ xs) job is = go (same_name x.name name) (find_job xs name) refl is
-  where
-    go : (b : Bool) (o : Option ℕ) → find_job xs name ≡ o → last_of (cond b (Some x.start) None) o ≡ Some job → is_some (job_row (x ∷ xs) job) ≡ true
-    go true (Some other) e last = seen_later (eqb x.start job) x (job_row xs job) (meant_stands name xs job (e ∙ last))
-    go false (Some other) e last = seen_later (eqb x.start job) x (job_row xs job) (meant_stands name xs job (e ∙ last))
-    go true None e last =
-        let same : x.start ≡ job = cc last in
-        ap (λ (b : Bool). is_some (cond b (Some x) (job_row xs job))) (eq-eqb x.start job same)
-    go false None e last = absurd (cc last)
+meant_stands name (x ∷ xs) job is = meant_cons x (job_row xs job) job (same_name x.name name) (find_job xs name) (meant_stands name xs job) is
 
 not_yet : (s : State) (name : JobName) → ((job : ℕ) → is_some (job_row s.jobs job) ≡ true → job < s.len) → (o : Option ℕ) → find_job s.jobs name ≡ o →
     is_job s.len o ≡ false
@@ -73,7 +76,7 @@ eqb_self name = eq-eqb name name refl
 
 -- the job that the name means after an unlink is the one that it started, where it started one
 started_if : (s : State) (name to : ℕ) (b : Bool) → ((job : ℕ) → is_some (job_row s.jobs job) ≡ true → job < s.len) →
-    is_job s.len (find_job (s.jobs ++ started_job s.len (cond b (Some (to, Named name)) None)) (Named name)) ≡ is_some (cond b (Some (to, Named name)) None)
+    is_job s.len (find_job (s.jobs ++ started_job s.len (cond b (Some (to, Named name)) None)) (Named name)) ≡ is_some {T = ℕ × JobName} (cond b (Some (to, Named name)) None)
 started_if s name to true below =
     ap (is_job s.len) (find_job-append s.jobs (started_job s.len (Some (to, Named name))) (Named name)
     ∙ ap (λ (b : Bool). last_of (find_job s.jobs (Named name)) (last_of (cond b (Some s.len) None) None)) (eqb_self name))
@@ -125,3 +128,27 @@ pub restore_items : (w next : World) (name : JobName) (what : What) → next ≡
 restore_items w next name what is answered =
     ap (λ (t : State). restored_items t what) (ap state_of is ∙ state_with w what [])
     ∙ items_same (state_of w) (now_of w) (find_job (state_of w).jobs name) what answered
+
+-- the lines of an accepted unlink and of an accepted restore
+
+pub unlink_text : (schema : Schema) (w next : World) (c : Call) (edge from to name position : ℕ) (what : What) (shown : List ℕ) (started : Option ℕ) (text : List ℕ) →
+    c ≡ call.Unlink edge from to name → Legal w.rules w.history → next ≡ with_entry w what (payload_of c) → position ≡ length w.history → answer w c ≡ Ok what →
+    shown ≡ edge_name schema edge → started ≡ cond (is_job position (find_job (state_of next).jobs (Named name))) (Some name) None →
+    text ≡ unlinked_text position shown from to started → text ≡ accepted_text schema w c what
+unlink_text schema w next c edge from to name position what shown started text is legal world here answered shown_is started_is said =
+    let made : next ≡ with_entry w what [] = world ∙ ap (λ (x : Call). with_entry w what (payload_of x)) is in
+    let asked : answer w (call.Unlink edge from to name) ≡ Ok what = sym (ap (answer w) is) ∙ answered in
+    said ∙ ap (λ (n : ℕ). unlinked_text n shown from to started) here
+    ∙ ap (λ (s : List ℕ). unlinked_text (length w.history) s from to started) shown_is
+    ∙ ap (unlinked_text (length w.history) (edge_name schema edge) from to) (started_is ∙ unlink_started w next edge from to name position what legal made here asked)
+    ∙ ap (λ (x : Call). accepted_text schema w x what) (sym is)
+
+pub restore_text : (schema : Schema) (w next : World) (c : Call) (name : JobName) (position : ℕ) (what : What) (items : ℕ) (text : List ℕ) →
+    c ≡ call.Restore name → next ≡ with_entry w what (payload_of c) → position ≡ length w.history → answer w c ≡ Ok what →
+    items ≡ restored_items (state_of next) what → text ≡ restoring_text position name items → text ≡ accepted_text schema w c what
+restore_text schema w next c name position what items text is world here answered items_is said =
+    let made : next ≡ with_entry w what [] = world ∙ ap (λ (x : Call). with_entry w what (payload_of x)) is in
+    let asked : answer w (call.Restore name) ≡ Ok what = sym (ap (answer w) is) ∙ answered in
+    said ∙ ap (λ (n : ℕ). restoring_text n name items) here
+    ∙ ap (restoring_text (length w.history) name) (items_is ∙ restore_items w next name what made asked)
+    ∙ ap (λ (x : Call). accepted_text schema w x what) (sym is)

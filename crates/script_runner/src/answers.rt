@@ -2,6 +2,7 @@ ghost use Rattle.std.specs.Prelude.{◌≡◌, cond, IfOk, OnOk, Ok, Some, None,
 ghost use Rattle.delf_model.specs.declared.ids.JobName.TheVariants.{Named};
 ghost use Rattle.delf_model.specs.declared.call.Call.{Call};
 ghost use Rattle.delf_model.specs.State.{find_job, is_job};
+ghost use Rattle.delf_model.specs.Legal.{Legal};
 ghost use Rattle.job_report.specs.Texts.{refusal_text};
 ghost use Rattle.script_runner.specs.Worlds.{World, state_of, with_entry};
 ghost use Rattle.script_runner.specs.Names.{HasNames, IsNumberedCall, IsNumberedRefusal};
@@ -46,7 +47,7 @@ fn accepted_line(
 ) -> Result<Bytes, AllocError>
     requires named { HasNames schema.now store.now.rules }
     requires numbered { IsNumberedCall store.now.rules call.now }
-    ensures { IfOk result (λ text. (w : World) → store.now ≡ with_entry w what.now (payload_of call.now) → position ≡ length w.history → answer w call.now ≡ Ok what.now → text ≡ accepted_text schema.now w call.now what.now) }
+    ensures { IfOk result (λ text. (w : World) → Legal w.rules w.history → store.now ≡ with_entry w what.now (payload_of call.now) → position ≡ length w.history → answer w call.now ≡ Ok what.now → text ≡ accepted_text schema.now w call.now what.now) }
 {
     match call {
         Call::Create { id, .. } => created_line(alloc, position, *id),

@@ -1,4 +1,4 @@
-ghost use Rattle.std.specs.Prelude.{◌≡◌, IfOk, flat_map};
+ghost use Rattle.std.specs.Prelude.{◌≡◌, ◌++◌, IfOk, flat_map};
 ghost use Rattle.delf_model.specs.State.{find_job};
 ghost use Rattle.delf_model.specs.Report.{listed_from, line_of_row};
 ghost use Rattle.job_report.specs.Texts.{job_text};
@@ -18,19 +18,30 @@ pub fn job(
     alloc: Global,
     schema: &Schema,
     store: &Store,
-    name: JobName,
+    name: &JobName,
 ) -> Result<Bytes, AllocError>
     requires { HasNames schema.now store.now.rules }
-    ensures { IfOk result (λ text. text ≡ job_lines schema.now (state_of store.now) name) }
+    ensures { IfOk result (λ text. text ≡ job_lines schema.now (state_of store.now) name.now) }
 {
-    match named_line(store, name) {
-        Some(line) => {
-            let first = job_line(alloc, &line)?;
-            let listed = listed_lines(alloc, schema, store, line.job)?;
-            joined(alloc, &first, &listed)
-        }
-        None => no_job_line(alloc, name),
+    match named_line(store, *name) {
+        Some(line) => told_lines(alloc, schema, store, &line),
+        None => no_job_line(alloc, *name),
     }
+}
+
+// The line of a job, and of each item that it listed.
+fn told_lines(
+    alloc: Global,
+    schema: &Schema,
+    store: &Store,
+    line: &JobLine,
+) -> Result<Bytes, AllocError>
+    requires { HasNames schema.now store.now.rules }
+    ensures { IfOk result (λ text. text ≡ job_text line.now ++ flat_map (listed_line_of schema.now) (listed_from line.now.job 0 (state_of store.now).items)) }
+{
+    let first = job_line(alloc, line)?;
+    let listed = listed_lines(alloc, schema, store, line.job)?;
+    joined(alloc, first.as_slice(), listed.as_slice())
 }
 
 // The line of the job that the name means.
@@ -86,7 +97,7 @@ pub fn jobs(alloc: Global, store: &Store) -> Result<Bytes, AllocError>
     let lines = store.jobs(alloc)?;
     let count = jobs_line(alloc, lines.len() as u32)?;
     let rows = each_job_line(alloc, lines.as_slice())?;
-    joined(alloc, &count, &rows)
+    joined(alloc, count.as_slice(), rows.as_slice())
 }
 
 fn each_job_line(alloc: Global, lines: &[JobLine]) -> Result<Bytes, AllocError>

@@ -16,7 +16,7 @@ mod store;
 mod tests;
 mod words;
 
-pub use document::{Document, DocumentFault, read_document};
+pub use document::{Document, read_document};
 pub use put::put_all;
 pub use read::{ReadError, read_at_most};
 pub use run::run_plain;

@@ -9,7 +9,7 @@ pub fn kind_name(schema: &Schema, kind: TypeNo) -> &Name
     requires { kind < length schema.now.objects }
     ensures { result.now ≡ kind_name schema.now kind }
 {
-    &schema.objects.as_slice()[kind.0 as usize].name
+    object_row_name(schema, kind.0 as usize)
 }
 
 /// The name of the edge type with this number.
@@ -17,7 +17,25 @@ pub fn edge_name(schema: &Schema, edge: EdgeNo) -> &Name
     requires { edge < length schema.now.edges }
     ensures { result.now ≡ edge_name schema.now edge }
 {
-    &schema.edges.as_slice()[edge.0 as usize].name
+    edge_row_name(schema, edge.0 as usize)
+}
+
+/// The name in this row of the object types.
+pub fn object_row_name(schema: &Schema, row: usize) -> &Name
+    requires { row < length schema.now.objects }
+    ensures { result.now ≡ kind_name schema.now row }
+{
+    let types = schema.objects.as_slice();
+    &types[row].name
+}
+
+/// The name in this row of the edge types.
+pub fn edge_row_name(schema: &Schema, row: usize) -> &Name
+    requires { row < length schema.now.edges }
+    ensures { result.now ≡ edge_name schema.now row }
+{
+    let types = schema.edges.as_slice();
+    &types[row].name
 }
 
 /// A name for a line that prints none. The only error is want of memory.

@@ -1,4 +1,4 @@
-ghost use Rattle.std.specs.Prelude.{◌≡◌, ◌-◌, IfOk, OnOk, IsTrue, [], length};
+ghost use Rattle.std.specs.Prelude.{◌≡◌, IfOk, OnOk, IsTrue};
 ghost use Rattle.script_runner.specs.Names.{HasNames, IsNumberedCommand};
 ghost use Rattle.script_runner.specs.Serial.{lines_of, next_world, is_served, steps_made, world_worked, work_line as work_line_of};
 
@@ -33,13 +33,23 @@ pub fn perform(
         }
         Command::Get(id) => get(alloc, schema, store, *id),
         Command::Show => show(alloc, schema, store),
-        Command::Job(name) => job(alloc, schema, store, *name),
+        Command::Job(name) => job(alloc, schema, store, name),
         Command::Jobs => jobs(alloc, store),
         Command::Report => report(alloc, store),
         Command::Fail { .. } => unreachable!(),
         Command::Crash { .. } => unreachable!(),
         Command::Par { .. } => unreachable!(),
     }
+}
+
+/// Whether this program serves the command.
+pub fn is_served(command: &Command) -> bool
+    ensures { result ≡ is_served command.now }
+{
+    !matches!(
+        command,
+        Command::Fail { .. } | Command::Crash { .. } | Command::Par { .. }
+    )
 }
 
 // Makes steps until none is left, `n` at most, and gives the line of it.

@@ -44,15 +44,16 @@ pub fn show(alloc: Global, schema: &Schema, store: &Store) -> Result<Bytes, Allo
     let numbers = graph_line(alloc, objects.len() as u32, edges.len() as u32)?;
     let rows = object_lines(alloc, schema, store, objects.as_slice())?;
     let keys = edge_lines(alloc, schema, store, edges.as_slice())?;
-    joined(alloc, &joined(alloc, &numbers, &rows)?, &keys)
+    let objects = joined(alloc, numbers.as_slice(), rows.as_slice())?;
+    joined(alloc, objects.as_slice(), keys.as_slice())
 }
 
 /// A text with another one behind it.
-pub fn joined(alloc: Global, first: &Bytes, second: &Bytes) -> Result<Bytes, AllocError>
+pub fn joined(alloc: Global, first: &[u8], second: &[u8]) -> Result<Bytes, AllocError>
     ensures { IfOk result (λ text. text ≡ first.now ++ second.now) }
 {
-    let mut text = Vec::from_slice(alloc, first.as_slice())?;
-    text.extend_from_slice(second.as_slice())?;
+    let mut text = Vec::from_slice(alloc, first)?;
+    text.extend_from_slice(second)?;
     Ok(Bytes::from_vec(text))
 }
 

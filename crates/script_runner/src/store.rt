@@ -1,4 +1,4 @@
-ghost use Rattle.std.specs.Prelude.{◌≡◌, ◌≤◌, true, IfOk, IfSome, IfErr, OnOk, OnErr, length, map};
+ghost use Rattle.std.specs.Prelude.{◌≡◌, ◌≤◌, ◌++◌, true, IfOk, IfSome, IfErr, OnOk, OnErr, length, map, option_to_list};
 ghost use Rattle.std.specs.List.{AllByRecursion};
 ghost use Rattle.delf_model.specs.Graph.{object_at};
 ghost use Rattle.delf_model.specs.State.{owner, find_job, job_row};
@@ -11,7 +11,7 @@ ghost use Rattle.script_runner.specs.Serial.{answer, after_answer, payload_of, n
 
 use delf_book::Ledger;
 use delf_model::{
-    Bytes, Call, EdgeRow, Entry, GraphStore, Job, JobLine, JobName, Listed, Moment, ObjectId,
+    Bytes, Call, EdgeRow, Entry, GraphStore, Job, JobLine, JobName, List, Listed, Moment, ObjectId,
     ObjectRow, Refusal, Rules, What,
 };
 use history_laws::legal_is_sound;
@@ -81,7 +81,7 @@ impl Store {
         match self.judge(call) {
             Ok(what) => {
                 let given = given_by(alloc, call)?;
-                self.add(what, given)?;
+                self.add(&what, given)?;
                 Ok(Ok(what))
             }
             Err(refusal) => Ok(Err(refusal)),
@@ -97,7 +97,7 @@ impl Store {
     {
         match self.first_step() {
             Some(what) => {
-                self.add(what, Bytes::from_vec(Vec::new(alloc)))?;
+                self.add(&what, Bytes::from_vec(Vec::new(alloc)))?;
                 Ok(Some(what))
             }
             None => Ok(None),
@@ -137,15 +137,19 @@ impl Store {
     }
 
     // Adds a legal entry with the payload that it gives.
-    fn add(&mut self, what: What, given: Bytes) -> Result<(), AllocError>
-        requires { is_legal (state_of self.old) (record { moment = now_of self.old; what = what }) ≡ true }
-        ensures made { OnOk result (self.new ≡ with_entry self.old what given) }
+    fn add(&mut self, what: &What, given: Bytes) -> Result<(), AllocError>
+        requires { is_legal (state_of self.old) (record { moment = now_of self.old; what = what.now }) ≡ true }
+        ensures made { OnOk result (self.new ≡ with_entry self.old what.now given) }
         ensures unchanged { OnErr result (self.new ≡ self.old) }
     {
         let moment = self.now();
-        self.ledger.make_ready(&what)?;
+        self.ledger.make_ready(what)?;
         self.given.push(given)?;
-        self.ledger.enter(&Entry { moment, what });
+        let entry = Entry {
+            moment,
+            what: *what,
+        };
+        self.ledger.enter(&entry);
         Ok(())
     }
 
@@ -207,18 +211,35 @@ impl Store {
     }
 
     /// The line of each job, by age; the only error is want of memory.
-    pub fn jobs(&self, alloc: Global) -> Result<Vec<JobLine>, AllocError>
-        ensures lines { IfOk result (λ lines. lines.items ≡ map (job_line (state_of self.now)) (state_of self.now).jobs) }
-        ensures few { IfOk result (λ lines. length lines.items ≤ 500000) }
+    pub fn jobs(&self, alloc: Global) -> Result<List<JobLine>, AllocError>
+        ensures lines { IfOk result (λ lines. lines ≡ map (job_line (state_of self.now)) (state_of self.now).jobs) }
+        ensures few { IfOk result (λ lines. length lines ≤ 500000) }
     {
-        let mut lines = Vec::new(alloc);
+        let mut lines = List::new(alloc);
         for place in 0..self.len() {
-            let Some(line) = self.ledger.job_at(place) else {
-                return Ok(lines);
-            };
-            lines.push(line)?;
+            self.add_line(place, &mut lines)?;
         }
         Ok(lines)
+    }
+
+    // Adds the line of the job at this place, if there is one.
+    fn add_line(&self, place: u32, lines: &mut List<JobLine>) -> Result<(), AllocError>
+        ensures { OnOk result (lines.new ≡ lines.old ++ option_to_list (job_at (state_of self.now) place)) }
+    {
+        match self.ledger.job_at(place) {
+            Some(line) => {
+                let name: JobName = line.name;
+                lines.push(JobLine {
+                    job: line.job,
+                    name,
+                    root: line.root,
+                    erased: line.erased,
+                    cut: line.cut,
+                    status: line.status,
+                })
+            }
+            None => Ok(()),
+        }
     }
 
     /// The line of the job that was started at this position.
