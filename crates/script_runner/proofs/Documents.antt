@@ -1,21 +1,35 @@
--- Why bytes are no document, and the commands of a script line by line.
-use Rattle.std.proofs.Common.{◌≡◌, ℕ, zero, suc, ◌≤◌, ◌<◌, Result, Ok, Err, Option, Some, None, List, [], ◌∷◌, ◌++◌, length, get_or, refl, sym, ap, subst, ◌∙◌, arith, append_assoc, append-nil}
+-- Why bytes are a document, or which fault of theirs is tried first.
+use Rattle.std.proofs.Common.{◌≡◌, ℕ, zero, suc, ◌≤◌, ◌<◌, Result, Ok, Err, List, [], ◌∷◌, length, get_or, refl, sym, ap, subst, ◌∙◌, arith}
 use Rattle.std.proofs.lemmas.List.{length-map}
+use Rattle.std.specs.Prelude.{codes, false}
 use Rattle.std.specs.Str.Lines.{lines}
-use Rattle.std.specs.List.{AllByRecursion}
+use Rattle.std.specs.List.{All, AllByRecursion}
 use Rattle.delf_model.specs.declared.schema.Schema.{Schema}
 use Rattle.delf_model.specs.declared.schema.ObjectType.{ObjectType}
 use Rattle.delf_model.specs.declared.schema.ObjectRule.{ObjectRule}
 use Rattle.delf_model.specs.declared.schema.ObjectRule.TheVariants.{Directly, DirectlyOnly, ByAny, ShortTtl, NotDeleted}
-use Rattle.delf_model.specs.Checked as checked
+use Rattle.delf_model.specs.declared.rules.Broken.{Broken}
+use Rattle.delf_model.specs.declared.rules.Broken.TheVariants.{ObjectTwice, EdgeTwice, Undeclared, CannotTake, NoRoute}
+use Rattle.delf_model.specs.declared.call.Call.{Call}
+use Rattle.delf_model.specs.declared.call.Call.TheVariants as call
+use Rattle.delf_model.specs.declared.script.Command.{Command}
+use Rattle.delf_model.specs.declared.script.Command.TheVariants.{Submit, Work, Tick, Get, Show, Job, Jobs, Report, Fail, Crash, Par}
 use Rattle.delf_model.specs.RuleSet.{RuleSet}
-use Rattle.delf_model.specs.Checked.{IsChecked, IsExpiry, numbered}
+use Rattle.delf_model.specs.Broken.{IsFirstBroken}
+use Rattle.delf_model.specs.Checked as checked
+use Rattle.delf_model.specs.Checked.{IsChecked, IsExpiry, numbered, shape_of}
+use Rattle.schema_lang.specs.declared.fault.SchemaFault.{SchemaFault}
+use Rattle.schema_lang.specs.declared.fault.SchemaFault.TheVariants as schema
 use Rattle.schema_lang.specs.Spelling.{IsSpellable, FitsRule, FitsObject}
-use Rattle.schema_lang.specs.Words.{line_of}
-use Rattle.schema_lang.specs.Grammar.{Part, Fault, part_of}
-use Rattle.script_runner.specs.declared.document.Command.{Command}
+use Rattle.schema_lang.specs.Grammar as grammar
+use Rattle.script_lang.specs.declared.fault.DocumentFault.{DocumentFault}
+use Rattle.script_lang.specs.declared.fault.DocumentFault.TheVariants.{Bad, OutOfMemory}
+use Rattle.script_lang.specs.Scripts.{Fault, script_of}
+use Rattle.script_lang.specs.TypeNumbers.{CommandNames}
+use Rattle.script_lang.specs.Documents.{IsLineTold, TellsPart, Spells}
 use Rattle.script_runner.specs.declared.document.Document.{Document}
-use Rattle.script_runner.specs.Documents.{IsDocument, IsNoDocument, spells, commands_of, commands_of_line, both}
+use Rattle.script_runner.specs.Documents.{HasPart, IsDocument, IsThere, IsFault, TooLong, InPart, InCheck, InScript, IsToldFault, broken_line, broken_text, broken_fault}
+use Rattle.script_runner.specs.Names.{HasNames, IsNumberedCommand}
 
 -- a schema that a text can spell is one that rules can be made of
 
@@ -40,92 +54,68 @@ spellable_of schema fits = record {
   expiries = λ k d below. expiries_of schema.objects k d fits.each_object below;
 }
 
--- why bytes are no document
+-- its types have names, and so have the numbers in its commands
 
-pub too_many_bytes : (bytes : List ℕ) → 16777216 < length bytes → IsNoDocument bytes
-too_many_bytes bytes long document is = let size : length bytes ≤ 16777216 = is.size in omega arith
-
-pub bad_part : (bytes : List ℕ) (fault : Fault) → part_of (lines bytes) ≡ Err fault → IsNoDocument bytes
-bad_part bytes fault bad document is =
-    subst (λ (read : Result Part Fault). spells read document.schema document.commands) bad is.spelled
-
-pub bad_script : (bytes : List ℕ) (part : Part) → part_of (lines bytes) ≡ Ok part →
-    commands_of part.schema.objects part.rest ≡ None → IsNoDocument bytes
-bad_script bytes part good none document is =
-    let spelled = subst (λ (read : Result Part Fault). spells read document.schema document.commands) good is.spelled in
-    let e : None ≡ Some document.commands = sym none ∙ spelled.1 in cc
-
-pub bad_schema : (bytes : List ℕ) (part : Part) → part_of (lines bytes) ≡ Ok part →
-    (IsChecked part.schema → ⊥) → IsNoDocument bytes
-bad_schema bytes part good unchecked document is =
-    let spelled = subst (λ (read : Result Part Fault). spells read document.schema document.commands) good is.spelled in
-    unchecked (subst (λ (schema : Schema). IsChecked schema) (sym spelled.0) is.checked)
-
--- and why they are one
-pub good_document : (bytes : List ℕ) (part : Part) (document : Document) → length bytes ≤ 16777216 →
-    part_of (lines bytes) ≡ Ok part → part.schema ≡ document.schema →
-    commands_of part.schema.objects part.rest ≡ Some document.commands → IsChecked document.schema →
-    document.rules ≡ numbered document.schema → IsDocument bytes document
-good_document bytes part document size good schema commands is rules = record {
-  size = size;
-  spelled = subst (λ (read : Result Part Fault). spells read document.schema document.commands) (sym good) (schema, commands);
-  checked = is;
-  rules = rules;
+pub has_names : (schema : Schema) (rules : RuleSet) → rules ≡ numbered schema → HasNames schema rules
+has_names schema rules is = record {
+  objects = ap (λ (r : RuleSet). length r.objects) is ∙ length-map schema.objects (λ object. object.rule);
+  edges = ap (λ (r : RuleSet). length r.edges) is ∙ length-map schema.edges (shape_of schema.objects);
 }
 
-pub numbered_length : (document : Document) (bytes : List ℕ) → IsDocument bytes document →
-    length document.rules.objects ≡ length document.schema.objects
-numbered_length document bytes is =
-    ap (λ (rules : RuleSet). length rules.objects) is.rules ∙ length-map document.schema.objects (λ (object : ObjectType). object.rule)
+numbered_command : (schema : Schema) (rules : RuleSet) (command : Command) → HasNames schema rules → CommandNames schema command → IsNumberedCommand rules command
+numbered_command schema rules (Submit (call.Create kind id payload)) has names = omega (arith, has.objects)
+numbered_command schema rules (Submit (call.Update id payload)) has names = tt
+numbered_command schema rules (Submit (call.Link edge from to payload)) has names = omega (arith, has.edges)
+numbered_command schema rules (Submit (call.Unlink edge from to name)) has names = omega (arith, has.edges)
+numbered_command schema rules (Submit (call.Delete id name)) has names = tt
+numbered_command schema rules (Submit (call.Restore name)) has names = tt
+numbered_command schema rules (Work n) has names = tt
+numbered_command schema rules (Tick n) has names = tt
+numbered_command schema rules (Get id) has names = tt
+numbered_command schema rules Show has names = tt
+numbered_command schema rules (Job name) has names = tt
+numbered_command schema rules Jobs has names = tt
+numbered_command schema rules Report has names = tt
+numbered_command schema rules (Fail n) has names = tt
+numbered_command schema rules (Crash pick) has names = tt
+numbered_command schema rules (Par quiet workers turns lanes) has names = tt
 
--- the commands of the lines so far, before those of the rest
+pub numbered_commands : (schema : Schema) (rules : RuleSet) (commands : List Command) → HasNames schema rules → All (CommandNames schema) commands →
+    All (IsNumberedCommand rules) commands
+numbered_commands schema rules commands has names = λ k d below. numbered_command schema rules (get_or commands k d) has (names k d below)
 
-both_nothing : (more : Option (List Command)) → both (Some []) more ≡ more
-both_nothing None = refl
-both_nothing (Some more) = refl
+-- the first broken rule is broken by a row that is there
 
-both_more : (so_far : List Command) (one : List Command) (more : Option (List Command)) →
-    both (Some so_far) (both (Some one) more) ≡ both (Some (so_far ++ one)) more
-both_more so_far one None = refl
-both_more so_far one (Some more) = ap (λ (all : List Command). Some all) (sym (append_assoc so_far one more))
+pub there_of : (schema : Schema) (broken : Broken) → IsFirstBroken schema broken → IsThere schema broken
+there_of schema (ObjectTwice row) first = first.0
+there_of schema (EdgeTwice row) first = first.1.0
+there_of schema (Undeclared row target) first = omega (arith, first.2.0.0, (has_names schema (numbered schema) refl).edges)
+there_of schema (CannotTake row) first = omega (arith, first.2.1.0, (has_names schema (numbered schema) refl).edges)
+there_of schema (NoRoute row) first = omega (arith, first.2.2.0, (has_names schema (numbered schema) refl).objects)
 
-both_none : (so_far : List Command) (more : Option (List Command)) → both (Some so_far) (both None more) ≡ None
-both_none so_far more = refl
+-- what is told
 
-pub script_start : (types : List ObjectType) (rows : List (List ℕ)) → both (Some []) (commands_of types rows) ≡ commands_of types rows
-script_start types rows = both_nothing (commands_of types rows)
+told_is : (bytes : List ℕ) (told : DocumentFault) (line : ℕ) (text : List ℕ) → IsLineTold told line text → IsFault bytes (record { line = line; text = text }) →
+    IsToldFault bytes told
+told_is bytes (Bad line' text') line text is fault =
+    subst (λ (l : ℕ). IsFault bytes (record { line = l; text = text' })) (sym is.0)
+    (subst (λ (t : List ℕ). IsFault bytes (record { line = line; text = t })) (sym is.1) fault)
+told_is bytes OutOfMemory line text is fault = tt
 
-pub script_end : (types : List ObjectType) (so_far : List Command) (whole : Option (List Command)) (rows : List (List ℕ)) →
-    both (Some so_far) (commands_of types rows) ≡ whole → rows ≡ [] → Some so_far ≡ whole
-script_end types so_far whole rows same none =
-    sym (subst (λ (ls : List (List ℕ)). both (Some so_far) (commands_of types ls) ≡ Some so_far) (sym none)
-    (ap (λ (all : List Command). Some all) (append-nil so_far))) ∙ same
+pub told_long : (bytes : List ℕ) (told : DocumentFault) → 16777216 < length bytes → IsLineTold told 0 (codes "document too long") → IsToldFault bytes told
+told_long bytes told long is = told_is bytes told 0 (codes "document too long") is (TooLong long refl)
 
-pub script_more : (types : List ObjectType) (so_far one : List Command) (whole : Option (List Command)) (line : List ℕ)
-    (rows rest : List (List ℕ)) → both (Some so_far) (commands_of types rows) ≡ whole → rows ≡ line ∷ rest →
-    commands_of_line types (line_of line) ≡ Some one → both (Some (so_far ++ one)) (commands_of types rest) ≡ whole
-script_more types so_far one whole line rows rest same split says =
-    sym (both_more so_far one (commands_of types rest))
-    ∙ ap (λ (first : Option (List Command)). both (Some so_far) (both first (commands_of types rest))) (sym says)
-    ∙ ap (λ (ls : List (List ℕ)). both (Some so_far) (commands_of types ls)) (sym split) ∙ same
+pub told_part : (bytes : List ℕ) (fault : SchemaFault) (told : DocumentFault) → length bytes ≤ 16777216 → grammar.Fails fault (grammar.part_of (lines bytes)) →
+    TellsPart fault told → IsToldFault bytes told
+told_part bytes (schema.Bad line why) told small bad tells = told_is bytes told line _ tells (InPart (record { line = line; why = why }) small bad refl)
+told_part bytes schema.OutOfMemory told small bad tells = subst (IsToldFault bytes) (sym tells) tt
 
-pub script_skipped : (types : List ObjectType) (so_far : List Command) (whole : Option (List Command)) (line : List ℕ)
-    (rows rest : List (List ℕ)) → both (Some so_far) (commands_of types rows) ≡ whole → rows ≡ line ∷ rest →
-    commands_of_line types (line_of line) ≡ Some [] → both (Some so_far) (commands_of types rest) ≡ whole
-script_skipped types so_far whole line rows rest same split says =
-    subst (λ (all : List Command). both (Some all) (commands_of types rest) ≡ whole) (append-nil so_far)
-    (script_more types so_far [] whole line rows rest same split says)
+pub told_check : (bytes : List ℕ) (part : grammar.Part) (broken : Broken) (told : DocumentFault) → HasPart bytes part → IsFirstBroken part.schema broken →
+    IsLineTold told (broken_line part.schema broken) (broken_text part.schema broken) → IsToldFault bytes told
+told_check bytes part broken told has first is =
+    told_is bytes told (broken_line part.schema broken) (broken_text part.schema broken) is (InCheck part broken has first refl)
 
-pub script_bad : (types : List ObjectType) (so_far : List Command) (whole : Option (List Command)) (line : List ℕ)
-    (rows rest : List (List ℕ)) → both (Some so_far) (commands_of types rows) ≡ whole → rows ≡ line ∷ rest →
-    commands_of_line types (line_of line) ≡ None → None ≡ whole
-script_bad types so_far whole line rows rest same split says =
-    ap (λ (first : Option (List Command)). both (Some so_far) (both first (commands_of types rest))) (sym says)
-    ∙ ap (λ (ls : List (List ℕ)). both (Some so_far) (commands_of types ls)) (sym split) ∙ same
-
-pub script_added : (types : List ObjectType) (so_far one new : List Command) (whole : Option (List Command)) (line : List ℕ)
-    (rows rest : List (List ℕ)) → both (Some so_far) (commands_of types rows) ≡ whole → rows ≡ line ∷ rest →
-    commands_of_line types (line_of line) ≡ Some one → new ≡ so_far ++ one → both (Some new) (commands_of types rest) ≡ whole
-script_added types so_far one new whole line rows rest same split says added =
-    ap (λ (all : List Command). both (Some all) (commands_of types rest)) added
-    ∙ script_more types so_far one whole line rows rest same split says
+pub told_script : (bytes : List ℕ) (part : grammar.Part) (told : DocumentFault) → HasPart bytes part → IsChecked part.schema →
+    Spells (Err told) (script_of part.schema false part.rest part.next) → IsToldFault bytes told
+told_script bytes part (Bad line text) has is bad = InScript part has is bad
+told_script bytes part OutOfMemory has is bad = tt

@@ -1,6 +1,12 @@
+pub mod Counts
 pub mod Documents
-pub mod Sources
+pub mod Keeping
+pub mod Loops
+pub mod Nameless
+pub mod Numbered
+pub mod Refusals
 pub mod Scripts
-pub mod Rows
-pub mod Creates
-pub mod Shows
+pub mod Sources
+pub mod Starts
+pub mod Told
+pub mod Works

@@ -1,15 +1,21 @@
 -- The text and the world of a script that is made command by command.
-use Rattle.std.proofs.Common.{◌≡◌, ℕ, zero, suc, ◌+◌, ◌<◌, Result, Ok, Err, Some, List, [], ◌∷◌, ◌++◌, length, get_or, take, refl, sym, ap, subst, ◌∙◌, arith, append_assoc, append-nil}
+use Rattle.std.proofs.Common.{◌≡◌, ℕ, zero, suc, ◌+◌, ◌<◌, Result, Ok, Err, Option, Some, None, List, [], ◌∷◌, ◌++◌, length, get_or, take, refl, sym, ap, subst, ◌∙◌, arith, append_assoc, append-nil}
 use Rattle.std.proofs.lemmas.List.{take_more}
 use Rattle.std.specs.Prelude.{slice_get}
+use Rattle.std.specs.List.{All}
 use Rattle.delf_model.specs.declared.schema.Schema.{Schema}
 use Rattle.delf_model.specs.declared.call.Refusal.{Refusal}
 use Rattle.delf_model.specs.declared.entry.What.{What}
-use Rattle.script_runner.specs.declared.document.Command.{Command}
-use Rattle.script_runner.specs.declared.document.Command.TheVariants.{Create, Show}
-use Rattle.script_runner.specs.Stores.{World}
-use Rattle.script_runner.specs.Serial.{after_answer, lines_of, next_world, world_after, text_of}
-use Rattle.script_runner.specs.Outcomes.{IsCut, IsCutScript}
+use Rattle.delf_model.specs.declared.script.Command.{Command}
+use Rattle.delf_model.specs.declared.script.Command.TheVariants.{Submit, Work, Tick, Get, Show, Job, Jobs, Report, Fail, Crash, Par}
+use Rattle.delf_model.specs.declared.call.Call.{Call}
+use Rattle.delf_model.specs.RuleSet.{RuleSet}
+use Rattle.delf_model.specs.Legal.{Legal}
+use Rattle.delf_model.specs.Sound.{Sound}
+use Rattle.script_runner.specs.Names.{HasNames, IsNumberedCommand}
+use Rattle.script_runner.specs.Worlds.{World}
+use Rattle.script_runner.specs.Serial.{answer, after_answer, next_step, after_step, world_worked, lines_of, next_world, world_after, text_of, IsServed}
+use Rattle.script_runner.specs.Outcomes.{IsCut, IsCutScript, IsWhole, HasSound}
 
 world_after-push : (w : World) (commands : List Command) (command : Command) →
     world_after w (commands ++ command ∷ []) ≡ next_world (world_after w commands) command
@@ -82,12 +88,60 @@ script_cut schema w commands i command before between after lines here below is 
 
 -- no command changes the rules
 
-rules_after : (w : World) (given : List ℕ) (answered : Result What Refusal) →
-    (after_answer w given answered).state.rules ≡ w.state.rules
-rules_after w given (Ok what) = refl
-rules_after w given (Err refusal) = refl
+rules_answered : (w : World) (asked : Call) (answered : Result What Refusal) → (after_answer w asked answered).rules ≡ w.rules
+rules_answered w asked (Ok what) = refl
+rules_answered w asked (Err refusal) = refl
 
-pub rules_stay : (w : World) (command : Command) → (next_world w command).state.rules ≡ w.state.rules
+rules_stepped : (w : World) (step : Option What) → (after_step w step).rules ≡ w.rules
+rules_stepped w None = refl
+rules_stepped w (Some what) = refl
+
+rules_worked : (n : ℕ) (w : World) → (world_worked n w).rules ≡ w.rules
+unfolding world_worked
+rules_worked zero w = refl
+rules_worked (suc n) w = rules_worked n (after_step w (next_step w)) ∙ rules_stepped w (next_step w)
+
+pub rules_stay : (w : World) (command : Command) → (next_world w command).rules ≡ w.rules
 unfolding next_world
-rules_stay w (Create kind id payload) = rules_after w payload _
+rules_stay w (Submit asked) = rules_answered w asked (answer w asked)
+rules_stay w (Work n) = rules_worked n w
+rules_stay w (Tick n) = refl
+rules_stay w (Get id) = refl
 rules_stay w Show = refl
+rules_stay w (Job name) = refl
+rules_stay w Jobs = refl
+rules_stay w Report = refl
+rules_stay w (Fail n) = refl
+rules_stay w (Crash pick) = refl
+rules_stay w (Par quiet workers turns lanes) = refl
+
+-- what the last world tells of its history
+pub has_sound : (w here : World) → here ≡ w → Legal here.rules here.history → Sound here.rules here.history → HasSound w
+has_sound w here is legal sound = subst HasSound is (record { legal = legal; sound = sound })
+
+-- what every command of a script meets, the next one meets too
+
+pub names_here : (schema : Schema) (first here : RuleSet) → here ≡ first → HasNames schema first → HasNames schema here
+names_here schema first here is has = subst (HasNames schema) (sym is) has
+
+pub numbered_here : (first here : RuleSet) (commands : List Command) (i : ℕ) (command : Command) → here ≡ first → i < length commands →
+    command ≡ get_or commands i command → All (IsNumberedCommand first) commands → IsNumberedCommand here command
+numbered_here first here commands i command rules below is all =
+    subst (λ (r : RuleSet). IsNumberedCommand r command) (sym rules) (subst (IsNumberedCommand first) (sym is) (all i command below))
+
+pub served_here : (commands : List Command) (i : ℕ) (command : Command) → i < length commands → command ≡ get_or commands i command →
+    All IsServed commands → IsServed command
+served_here commands i command below is all = subst IsServed (sym is) (all i command below)
+
+-- all commands were made
+pub whole_text : (schema : Schema) (w : World) (commands : List Command) (i : ℕ) (here : World) (before after : List ℕ) → take i commands ≡ commands →
+    here ≡ world_after w (take i commands) → after ≡ before ++ text_of schema w (take i commands) → Legal here.rules here.history → Sound here.rules here.history →
+    IsWhole schema w commands before after
+whole_text schema w commands i here before after all world held legal sound = record {
+  text = held ∙ ap (λ (cs : List Command). before ++ text_of schema w cs) all;
+  history = has_sound (world_after w commands) here (world ∙ ap (world_after w) all) legal sound;
+}
+
+-- none was made
+pub no_text : (schema : Schema) (w : World) (before : List ℕ) → before ≡ before ++ text_of schema w []
+no_text schema w before = sym (ap (λ (t : List ℕ). before ++ t) (text_of-none schema w) ∙ append-nil before)

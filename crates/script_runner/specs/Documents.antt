@@ -1,100 +1,85 @@
--- Which bytes are a document, and which words are a command of the program.
-use Rattle.std.specs.Prelude.{◌≡◌, ℕ, ◌≤◌, ◌&&◌, Option, Some, None, Result, Ok, Err, List, [], ◌∷◌, ◌++◌, length, nat_lt, if◌then◌else◌, codes}
-use Rattle.std.specs.Str.{bytes_eq}
+-- A document that is accepted, and the first fault of one that is not.
+use Rattle.std.specs.Prelude.{◌≡◌, ℕ, ◌<◌, ◌≤◌, ◌+◌, Bool, true, false, Option, Some, None, Result, Ok, Err, List, [], ◌∷◌, ◌++◌, length, slice_get, codes}
 use Rattle.std.specs.Str.Lines.{lines}
 use Rattle.delf_model.specs.declared.schema.Schema.{Schema}
-use Rattle.delf_model.specs.declared.schema.ObjectType.{ObjectType}
-use Rattle.delf_model.specs.Checked.{IsChecked, numbered, number_of}
-use Rattle.schema_lang.specs.declared.line.Word.{Word}
-use Rattle.schema_lang.specs.declared.line.Word.TheVariants.{Plain, Payload}
-use Rattle.schema_lang.specs.declared.line.Line.{Line}
-use Rattle.schema_lang.specs.declared.line.Line.TheVariants.{Skipped, Faulty, Words}
-use Rattle.schema_lang.specs.declared.why.Why.{Why}
-use Rattle.schema_lang.specs.Words.{line_of}
-use Rattle.schema_lang.specs.Rows.{word_text}
-use Rattle.schema_lang.specs.Numbers.{number_in}
-use Rattle.schema_lang.specs.Grammar.{Part, Fault, part_of}
-use Rattle.script_runner.specs.declared.document.Command.{Command}
-use Rattle.script_runner.specs.declared.document.Command.TheVariants.{Create, Show}
+use Rattle.delf_model.specs.declared.schema.EdgeType.{EdgeType}
+use Rattle.delf_model.specs.declared.rules.Broken.{Broken}
+use Rattle.delf_model.specs.declared.rules.Broken.TheVariants.{ObjectTwice, EdgeTwice, Undeclared, CannotTake, NoRoute}
+use Rattle.delf_model.specs.Broken.{IsFirstBroken}
+use Rattle.delf_model.specs.Checked.{IsChecked, numbered}
+use Rattle.schema_lang.specs.Grammar as grammar
+use Rattle.schema_checks.specs.Faults.{line_of_object, line_of_edge}
+use Rattle.script_lang.specs.declared.fault.DocumentFault.{DocumentFault}
+use Rattle.script_lang.specs.declared.fault.DocumentFault.TheVariants.{Bad, OutOfMemory}
+use Rattle.script_lang.specs.Scripts.{Fault, script_of}
+use Rattle.script_lang.specs.Documents.{schema_fault}
 use Rattle.script_runner.specs.declared.document.Document.{Document}
+use Rattle.script_runner.specs.Serial.{kind_name, edge_name}
 
--- the number that a word spells within its bounds
-abbrev pub within : Result ℕ Why → Option ℕ
-within (Ok number) = Some number
-within (Err why) = None
-
--- the number of the object type with this name, where it is declared
-abbrev pub declared_kind : List ObjectType → List ℕ → Option ℕ
-declared_kind types name = if nat_lt (number_of types name) (length types) then Some (number_of types name) else None
-
-abbrev pub create_of : List ℕ → Option ℕ → Option ℕ → Option Command
-create_of payload None kind = None
-create_of payload (Some id) None = None
-create_of payload (Some id) (Some kind) = Some (Create kind id payload)
-
--- `create ID TYPE`, with its payload
-abbrev pub created_by : List ObjectType → List ℕ → List ℕ → List ℕ → List ℕ → Option Command
-created_by types keyword id kind payload =
-    if bytes_eq keyword (codes "create") then create_of payload (within (number_in 1 999999999999 id)) (declared_kind types kind) else None
-
-abbrev pub with_payload : List ObjectType → List ℕ → List ℕ → List ℕ → Word → Option Command
-with_payload types keyword id kind (Plain text) = None
-with_payload types keyword id kind (Payload bytes) = created_by types keyword id kind bytes
-
--- the command that the words of a line say; a payload in the place of another word is the empty text, which is no
--- keyword, no number and no name
-abbrev pub command_of : List ObjectType → List Word → Option Command
-command_of types [] = None
-command_of types (keyword ∷ []) = if bytes_eq (word_text keyword) (codes "show") then Some Show else None
-command_of types (keyword ∷ id ∷ []) = None
-command_of types (keyword ∷ id ∷ kind ∷ []) = created_by types (word_text keyword) (word_text id) (word_text kind) []
-command_of types (keyword ∷ id ∷ kind ∷ payload ∷ []) = with_payload types (word_text keyword) (word_text id) (word_text kind) payload
-command_of types (keyword ∷ id ∷ kind ∷ payload ∷ other ∷ more) = None
-
-abbrev pub alone : Option Command → Option (List Command)
-alone None = None
-alone (Some command) = Some (command ∷ [])
-
--- the commands of one line: none, or one
-abbrev pub commands_of_line : List ObjectType → Line → Option (List Command)
-commands_of_line types Skipped = Some []
-commands_of_line types Faulty = None
-commands_of_line types (Words words) = alone (command_of types words)
-
-abbrev pub before_rest : List Command → Option (List Command) → Option (List Command)
-before_rest commands None = None
-before_rest commands (Some more) = Some (commands ++ more)
-
-abbrev pub both : Option (List Command) → Option (List Command) → Option (List Command)
-both None more = None
-both (Some commands) more = before_rest commands more
-
--- the commands of the lines of a script; None where one of the lines is at fault
-abbrev pub commands_of : List ObjectType → List (List ℕ) → Option (List Command)
-commands_of types [] = Some []
-commands_of types (line ∷ rest) = both (commands_of_line types (line_of line)) (commands_of types rest)
-
--- the schema part of a document without a fault, and the commands behind it
-abbrev pub spells : Result Part Fault → Schema → List Command → Type 0
-spells (Ok part) schema commands = (part.schema ≡ schema) × (commands_of part.schema.objects part.rest ≡ Some commands)
-spells (Err fault) schema commands = ⊥
-
--- these bytes are this document: they are few enough, spell its schema and its commands, and the schema is checked
-pub record IsDocument (bytes : List ℕ) (document : Document) : Type 0 where
+-- the lines of a document, few enough bytes, spell this schema part
+pub record HasPart (bytes : List ℕ) (part : grammar.Part) : Type 0 where
   pub size : length bytes ≤ 16777216
-  pub spelled : spells (part_of (lines bytes)) document.schema document.commands
+  pub spelled : grammar.part_of (lines bytes) ≡ Ok part
+
+-- the bytes are this document: its schema is checked, and each line behind the schema part is a command
+pub record IsDocument (bytes : List ℕ) (document : Document) : Type 0 where
+  pub part : grammar.Part
+  pub has : HasPart bytes part
+  pub schema : part.schema ≡ document.schema
   pub checked : IsChecked document.schema
   pub rules : document.rules ≡ numbered document.schema
+  pub script : script_of document.schema false part.rest part.next ≡ Ok document.commands
 
--- these bytes are no document
-abbrev pub IsNoDocument : List ℕ → Type 0
-IsNoDocument bytes = (document : Document) → IsDocument bytes document → ⊥
+-- the row that breaks a rule is one of the schema
+abbrev pub IsThere : Schema → Broken → Type 0
+IsThere schema (ObjectTwice row) = row < length schema.objects
+IsThere schema (EdgeTwice row) = row < length schema.edges
+IsThere schema (Undeclared row target) = row < length schema.edges
+IsThere schema (CannotTake row) = row < length schema.edges
+IsThere schema (NoRoute row) = row < length schema.objects
 
--- the start moment that the words `run --at N` give; None where the words are no command
-abbrev pub start_of : List (List ℕ) → Option ℕ
-start_of [] = None
-start_of (run ∷ []) = None
-start_of (run ∷ at ∷ []) = None
-start_of (run ∷ at ∷ number ∷ []) =
-    if bytes_eq run (codes "run") && bytes_eq at (codes "--at") then within (number_in 0 999999999999 number) else None
-start_of (run ∷ at ∷ number ∷ other ∷ more) = None
+-- what is said of a broken rule, and of which line
+
+abbrev pub source_name : Option EdgeType → List ℕ
+source_name None = []
+source_name (Some edge) = edge.from
+
+abbrev pub target_name : Option EdgeType → List ℕ
+target_name None = []
+target_name (Some edge) = edge.to
+
+abbrev pub end_name : Schema → ℕ → Bool → List ℕ
+end_name schema row false = source_name (slice_get schema.edges row)
+end_name schema row true = target_name (slice_get schema.edges row)
+
+abbrev pub broken_text : Schema → Broken → List ℕ
+broken_text schema (ObjectTwice row) = codes "name " ++ kind_name schema row ++ codes " declared twice"
+broken_text schema (EdgeTwice row) = codes "name " ++ edge_name schema row ++ codes " declared twice"
+broken_text schema (Undeclared row target) = codes "type " ++ end_name schema row target ++ codes " not declared"
+broken_text schema (CannotTake row) = codes "edge " ++ edge_name schema row ++ codes " cannot take " ++ end_name schema row true
+broken_text schema (NoRoute row) = codes "type " ++ kind_name schema row ++ codes " has no route"
+
+abbrev pub broken_line : Schema → Broken → ℕ
+broken_line schema (ObjectTwice row) = line_of_object schema row
+broken_line schema (EdgeTwice row) = line_of_edge schema row
+broken_line schema (Undeclared row target) = line_of_edge schema row
+broken_line schema (CannotTake row) = line_of_edge schema row
+broken_line schema (NoRoute row) = line_of_object schema row
+
+abbrev pub broken_fault : Schema → Broken → Fault
+broken_fault schema broken = record { line = broken_line schema broken; text = broken_text schema broken }
+
+-- the fault of these bytes that is tried first: their number, the schema part, its check, the script
+pub data IsFault (bytes : List ℕ) (fault : Fault) : Type 0 where
+  TooLong : 16777216 < length bytes → fault ≡ record { line = 0; text = codes "document too long" } → IsFault bytes fault
+  InPart : (found : grammar.Fault) → length bytes ≤ 16777216 → grammar.part_of (lines bytes) ≡ Err found → fault ≡ schema_fault found →
+      IsFault bytes fault
+  InCheck : (part : grammar.Part) (broken : Broken) → HasPart bytes part → IsFirstBroken part.schema broken →
+      fault ≡ broken_fault part.schema broken → IsFault bytes fault
+  InScript : (part : grammar.Part) → HasPart bytes part → IsChecked part.schema → script_of part.schema false part.rest part.next ≡ Err fault →
+      IsFault bytes fault
+
+-- what is told of bytes that are no document
+abbrev pub IsToldFault : List ℕ → DocumentFault → Type 0
+IsToldFault bytes (Bad line text) = IsFault bytes (record { line = line; text = text })
+IsToldFault bytes OutOfMemory = Unit {0}

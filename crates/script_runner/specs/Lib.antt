@@ -1,7 +1,7 @@
 pub mod Codes
-pub mod Texts
 pub mod Documents
-pub mod Stores
-pub mod Lines
-pub mod Serial
+pub mod Names
 pub mod Outcomes
+pub mod Requests
+pub mod Serial
+pub mod Worlds

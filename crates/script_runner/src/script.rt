@@ -1,15 +1,16 @@
-ghost use Rattle.std.specs.Prelude.{◌≡◌, ◌<◌, IfOk, OnOk, length, map};
-ghost use Rattle.delf_model.specs.declared.call.Call.{Call};
-ghost use Rattle.script_runner.specs.Stores.{NamesType};
-ghost use Rattle.script_runner.specs.Serial.{lines_of, next_world, graph_lines};
+ghost use Rattle.std.specs.Prelude.{◌≡◌, IfOk, OnOk, IsTrue};
+ghost use Rattle.script_runner.specs.Names.{HasNames, IsNumberedCommand};
+ghost use Rattle.script_runner.specs.Serial.{lines_of, next_world, is_served, steps_made, world_worked, work_line as work_line_of};
 
-use crate::document::Command;
-use crate::line::{created_line, graph_line, object_line, refusal_line};
+use crate::answers::submit;
+use crate::jobs::{job, jobs, report};
+use crate::shows::{get, show};
 use crate::store::Store;
-use delf_model::{Bytes, ObjectId, Schema, TypeNo};
+use delf_model::{Bytes, Command, Schema};
+use job_report::{WorkEnd, work_line};
 use std::alloc::{AllocError, Global};
 
-/// Makes a command, and gives its lines.
+/// Makes a command, and gives its lines. The only error is want of memory.
 #[tactic(auto, unfolding(crate::specs::Serial::lines_of, crate::specs::Serial::next_world))]
 pub fn perform(
     alloc: Global,
@@ -17,55 +18,49 @@ pub fn perform(
     store: &mut Store,
     command: &Command,
 ) -> Result<Bytes, AllocError>
-    requires numbered { length store.old.state.rules.objects ≡ length schema.now.objects }
-    requires kind { NamesType (length schema.now.objects) command.now }
+    requires named { HasNames schema.now store.old.rules }
+    requires numbered { IsNumberedCommand store.old.rules command.now }
+    requires served { IsTrue (is_served command.now) }
     ensures lines { IfOk result (λ text. text ≡ lines_of schema.now store.old command.now) }
     ensures next { OnOk result (store.new ≡ next_world store.old command.now) }
 {
     match command {
-        Command::Create { kind, id, payload } => {
-            create(alloc, schema, store, *kind, *id, payload.as_slice())
+        Command::Submit(call) => submit(alloc, schema, store, call),
+        Command::Work { n } => work(alloc, store, *n),
+        Command::Tick { n } => {
+            store.tick(*n);
+            Ok(Bytes::from_vec(Vec::new(alloc)))
         }
+        Command::Get(id) => get(alloc, schema, store, *id),
         Command::Show => show(alloc, schema, store),
+        Command::Job(name) => job(alloc, schema, store, name),
+        Command::Jobs => jobs(alloc, store),
+        Command::Report => report(alloc, store),
+        Command::Fail { .. } => unreachable!(),
+        Command::Crash { .. } => unreachable!(),
+        Command::Par { .. } => unreachable!(),
     }
 }
 
-#[tactic(auto, unfolding(crate::specs::Serial::lines_of, crate::specs::Serial::next_world))]
-fn create(
-    alloc: Global,
-    schema: &Schema,
-    store: &mut Store,
-    kind: TypeNo,
-    id: ObjectId,
-    payload: &[u8],
-) -> Result<Bytes, AllocError>
-    requires numbered { length store.old.state.rules.objects ≡ length schema.now.objects }
-    requires kind { kind < length schema.now.objects }
-    ensures lines { IfOk result (λ text. text ≡ lines_of schema.now store.old (Command.Create kind id payload.now)) }
-    ensures next { OnOk result (store.new ≡ next_world store.old (Command.Create kind id payload.now)) }
+/// Whether this program serves the command.
+pub fn is_served(command: &Command) -> bool
+    ensures { result ≡ is_served command.now }
 {
-    let position = store.len();
-    match store.create(alloc, kind, id, payload)? {
-        None => created_line(alloc, position, id),
-        Some(refusal) => {
-            let types = schema.objects.as_slice();
-            refusal_line(alloc, &refusal, position, &types[kind.0 as usize].name)
+    !matches!(
+        command,
+        Command::Fail { .. } | Command::Crash { .. } | Command::Par { .. }
+    )
+}
+
+// Makes steps until none is left, `n` at most, and gives the line of it.
+fn work(alloc: Global, store: &mut Store, n: u32) -> Result<Bytes, AllocError>
+    ensures line { IfOk result (λ text. text ≡ work_line_of n (steps_made n store.old)) }
+    ensures worked { OnOk result (store.new ≡ world_worked n store.old) }
+{
+    for made in 0..n {
+        if store.step(alloc)?.is_none() {
+            return work_line(alloc, made, WorkEnd::Idle);
         }
     }
-}
-
-fn show(alloc: Global, schema: &Schema, store: &Store) -> Result<Bytes, AllocError>
-    requires { length store.now.state.rules.objects ≡ length schema.now.objects }
-    ensures { IfOk result (λ text. text ≡ graph_lines schema.now store.now) }
-{
-    let types = schema.objects.as_slice();
-    let rows = store.objects();
-    let line = graph_line(alloc, rows.len() as u32, 0)?;
-    let mut text = Vec::from_slice(alloc, line.as_slice())?;
-    for row in rows {
-        let name = &types[row.kind.0 as usize].name;
-        let line = object_line(alloc, row, name, store.payload(row.at), None)?;
-        text.extend_from_slice(line.as_slice())?;
-    }
-    Ok(Bytes::from_vec(text))
+    work_line(alloc, n, WorkEnd::All)
 }

@@ -1,218 +1,281 @@
-ghost use Rattle.std.specs.Prelude.{◌≡◌, ◌+◌, ◌*◌, ◌<◌, ◌≤◌, ℕ, [], IfOk, OnOk, OnErr, IfSome, IfNone, Ok, Err, None, option_map, find, length, IsTrue};
+ghost use Rattle.std.specs.Prelude.{◌≡◌, ◌≤◌, ◌++◌, true, IfOk, IfSome, IfErr, OnOk, OnErr, length, map, option_to_list};
 ghost use Rattle.std.specs.List.{AllByRecursion};
-ghost use Rattle.delf_model.specs.declared.entry.Tag.{Tag};
-ghost use Rattle.delf_model.specs.declared.entry.What.{What};
-ghost use Rattle.delf_model.specs.declared.call.Call.{Call};
-ghost use Rattle.delf_model.specs.Graph.{objects_rise, object_at, has_id};
-ghost use Rattle.delf_model.specs.State.{due_of, owner};
-ghost use Rattle.delf_model.specs.Legal.{refused};
-ghost use Rattle.script_runner.specs.Stores.{HasKind, place_in};
-ghost use Rattle.script_runner.specs.Serial.{first_world, given_at, answer, after_answer, created_what, IsAccepted};
+ghost use Rattle.delf_model.specs.Graph.{object_at};
+ghost use Rattle.delf_model.specs.State.{owner, find_job, job_row};
+ghost use Rattle.delf_model.specs.Legal.{Legal, is_legal, greatest_moment};
+ghost use Rattle.delf_model.specs.Report.{job_at, job_line, line_of_row, listed_at, items_of};
+ghost use Rattle.delf_model.specs.Sound.{Sound};
+ghost use Rattle.script_runner.specs.Worlds.{first_world, state_of, now_of, given_at, with_entry, later};
+ghost use Rattle.script_runner.specs.Names.{IsNumberedCall, IsNumberedObject, IsNumberedEdge, IsNumberedListed, IsNumberedRefusal};
+ghost use Rattle.script_runner.specs.Serial.{answer, after_answer, payload_of, next_step, after_step};
 
-use delf_model::{Bytes, Moment, ObjectId, ObjectRow, ObjectRule, Refusal, Rules, TypeNo};
+use delf_book::Ledger;
+use delf_model::{
+    Bytes, Call, EdgeRow, Entry, GraphStore, Job, JobLine, JobName, List, Listed, Moment, ObjectId,
+    ObjectRow, Refusal, Rules, What,
+};
+use history_laws::legal_is_sound;
+use live_graph::ListGraph;
 use std::alloc::{AllocError, Global};
 use std::marker::Model;
 
-/// The greatest sum of entries made and entries owed.
-const ROOM_LIMIT: usize = 500_000;
-
-/// The greatest size of a payload in bytes.
-const PAYLOAD_LIMIT: usize = 512;
-
 /// The greatest moment.
-const GREATEST_MOMENT: u64 = 999_999_999_999;
+const GREATEST_MOMENT: Moment = 999_999_999_999;
 
-/// The graph of a history of created objects, with their payloads.
+/// What a script runs against: a book, the payloads that its entries gave, and the moment at which calls are made.
 #[derive(Drop)]
 pub struct Store {
-    rules: Rules,
-    // The moment of calls.
-    clock: Moment,
-    // The moment of the last entry.
-    moment: Moment,
-    // By rising id.
-    rows: Vec<ObjectRow>,
+    ledger: Ledger<ListGraph>,
     // By position.
-    payloads: Vec<Bytes>,
+    given: Vec<Bytes>,
+    clock: Moment,
 }
 
 impl Model for Store {
-    ghost use Rattle.script_runner.specs.Stores.{World, created_world, KeepsStore};
+    ghost use Rattle.script_runner.specs.Worlds.{World, KeepsWorld};
 
     ghost Value = { World };
 
-    ghost view = { λ s. created_world s.rules s.clock s.moment s.rows.items s.payloads.items };
+    ghost view = { λ s. record { rules = s.ledger.rules; history = s.ledger.history; given = s.given.items; clock = s.clock } };
 
-    ghost invariant = { λ s. KeepsStore s.rules s.moment s.rows.items s.payloads.items };
+    ghost invariant = { λ s. KeepsWorld s.ledger.rules s.ledger.history s.given.items s.clock };
 }
 
 impl Store {
-    /// The store of the empty history, at this moment.
-    pub fn new(alloc: Global, rules: Rules, clock: Moment) -> Store
-        ensures { result ≡ first_world rules clock }
+    /// The store of the empty history. The only error is want of memory.
+    pub fn new(alloc: Global, rules: Rules, clock: Moment) -> Result<Store, AllocError>
+        ensures { IfOk result (λ store. store ≡ first_world rules clock) }
     {
-        Store {
-            rules,
-            clock,
-            moment: 0,
-            rows: Vec::new(alloc),
-            payloads: Vec::new(alloc),
+        let graph = ListGraph::empty(alloc, &rules)?;
+        Ok(Store {
+            ledger: Ledger::new(alloc, rules, graph),
+            given: Vec::new(alloc),
+            clock: clock.min(GREATEST_MOMENT),
+        })
+    }
+
+    /// The length of the history, which is a legal one, and sound.
+    pub fn len(&self) -> u32
+        ensures value { result ≡ length self.now.history }
+        ensures below { result ≤ 500000 }
+        ensures legal { Legal self.now.rules self.now.history }
+        ensures sound { Sound self.now.rules self.now.history }
+    {
+        legal_is_sound();
+        self.ledger.len()
+    }
+
+    /// Makes a call of seat 0, and gives what it is answered. After a refusal, as after want of memory, which is the
+    /// only error, nothing is changed.
+    pub fn submit(
+        &mut self,
+        alloc: Global,
+        call: &Call,
+    ) -> Result<Result<What, Refusal>, AllocError>
+        requires { IsNumberedCall self.old.rules call.now }
+        ensures reply { IfOk result (λ reply. reply ≡ answer self.old call.now) }
+        ensures next { IfOk result (λ reply. self.new ≡ after_answer self.old call.now reply) }
+        ensures numbered { IfOk result (λ reply. IfErr reply (IsNumberedRefusal (length self.old.rules.objects))) }
+        ensures unchanged { OnErr result (self.new ≡ self.old) }
+    {
+        match self.judge(call) {
+            Ok(what) => {
+                let given = given_by(alloc, call)?;
+                self.add(&what, given)?;
+                Ok(Ok(what))
+            }
+            Err(refusal) => Ok(Err(refusal)),
         }
     }
 
-    /// The length of the history.
-    pub fn len(&self) -> u32
-        ensures { result ≡ self.now.state.len }
+    /// Makes the first step of the serial order, and gives it; None where no step is left. After want of memory, which
+    /// is the only error, nothing is changed.
+    pub fn step(&mut self, alloc: Global) -> Result<Option<What>, AllocError>
+        ensures step { IfOk result (λ step. step ≡ next_step self.old) }
+        ensures next { IfOk result (λ step. self.new ≡ after_step self.old step) }
+        ensures unchanged { OnErr result (self.new ≡ self.old) }
     {
-        self.payloads.len() as u32
+        match self.first_step() {
+            Some(what) => {
+                self.add(&what, Bytes::from_vec(Vec::new(alloc)))?;
+                Ok(Some(what))
+            }
+            None => Ok(None),
+        }
     }
 
-    /// The objects by rising id.
-    pub fn objects(&self) -> &[ObjectRow]
-        ensures rows { result.now ≡ self.now.state.graph.objects }
-        ensures kinds { AllByRecursion (HasKind self.now.state.rules) result.now }
-        ensures few { 4 * length result.now ≤ 500000 }
-        ensures alone { self.now.state.graph.edges ≡ [] }
-        ensures unowned { (id : ℕ) → owner self.now.state id ≡ None }
+    /// Raises the moment by so many seconds.
+    pub fn tick(&mut self, seconds: u64)
+        ensures { self.new ≡ later self.old seconds }
     {
-        self.rows.as_slice()
+        self.clock = self.clock.saturating_add(seconds).min(GREATEST_MOMENT);
+    }
+
+    // The moment of an entry that is made now.
+    fn now(&self) -> Moment
+        ensures value { result ≡ now_of self.now }
+        ensures not_before { (state_of self.now).moment ≤ result }
+        ensures within { result ≤ greatest_moment }
+    {
+        self.ledger.moment().max(self.clock)
+    }
+
+    fn judge(&self, call: &Call) -> Result<What, Refusal>
+        requires { IsNumberedCall self.now.rules call.now }
+        ensures reply { result ≡ answer self.now call.now }
+        ensures legal { IfOk result (λ what. is_legal (state_of self.now) (record { moment = now_of self.now; what = what }) ≡ true) }
+        ensures numbered { IfErr result (IsNumberedRefusal (length self.now.rules.objects)) }
+    {
+        self.ledger.judge(self.now(), 0, call)
+    }
+
+    fn first_step(&self) -> Option<What>
+        ensures step { result ≡ next_step self.now }
+        ensures legal { IfSome result (λ what. is_legal (state_of self.now) (record { moment = now_of self.now; what = what }) ≡ true) }
+    {
+        self.ledger.first_step(self.now())
+    }
+
+    // Adds a legal entry with the payload that it gives.
+    fn add(&mut self, what: &What, given: Bytes) -> Result<(), AllocError>
+        requires { is_legal (state_of self.old) (record { moment = now_of self.old; what = what.now }) ≡ true }
+        ensures made { OnOk result (self.new ≡ with_entry self.old what.now given) }
+        ensures unchanged { OnErr result (self.new ≡ self.old) }
+    {
+        let moment = self.now();
+        self.ledger.make_ready(what)?;
+        self.given.push(given)?;
+        let entry = Entry {
+            moment,
+            what: *what,
+        };
+        self.ledger.enter(&entry);
+        Ok(())
+    }
+
+    /// The objects by rising id; the only error is want of memory.
+    pub fn objects(&self, alloc: Global) -> Result<Vec<ObjectRow>, AllocError>
+        ensures rows { IfOk result (λ rows. rows.items ≡ (state_of self.now).graph.objects) }
+        ensures numbered { IfOk result (λ rows. AllByRecursion (IsNumberedObject self.now.rules) rows.items) }
+        ensures few { IfOk result (λ rows. length rows.items ≤ 500000) }
+    {
+        self.ledger.graph().objects(alloc)
+    }
+
+    /// The edges by rising key; the only error is want of memory.
+    pub fn edges(&self, alloc: Global) -> Result<Vec<EdgeRow>, AllocError>
+        ensures rows { IfOk result (λ rows. rows.items ≡ (state_of self.now).graph.edges) }
+        ensures numbered { IfOk result (λ rows. AllByRecursion (IsNumberedEdge self.now.rules) rows.items) }
+        ensures few { IfOk result (λ rows. length rows.items ≤ 500000) }
+    {
+        self.ledger.graph().edges(alloc)
+    }
+
+    /// The row of the object with this id.
+    pub fn object(&self, id: ObjectId) -> Option<ObjectRow>
+        ensures row { result ≡ object_at (state_of self.now).graph id }
+        ensures numbered { IfSome result (IsNumberedObject self.now.rules) }
+    {
+        self.ledger.graph().object(id)
+    }
+
+    /// The job that owns the object.
+    pub fn owner(&self, id: ObjectId) -> Option<Job>
+        ensures { result ≡ owner (state_of self.now) id }
+    {
+        self.ledger.owner(id)
     }
 
     /// The payload that the entry at this position gave.
-    pub fn payload(&self, position: u32) -> &[u8]
+    pub fn given(&self, position: u32) -> &[u8]
         ensures { result.now ≡ given_at self.now position }
     {
-        let place = position as usize;
-        if place >= self.payloads.len() {
-            return &[];
+        match self.given.get(position as usize) {
+            Some(given) => given.as_slice(),
+            None => &[],
         }
-        self.payloads[place].as_slice()
     }
 
-    /// Makes an object, or gives the refusal, and then nothing is changed; nor is it for want of memory.
-    pub fn create(
-        &mut self,
-        alloc: Global,
-        kind: TypeNo,
-        id: ObjectId,
-        payload: &[u8],
-    ) -> Result<Option<Refusal>, AllocError>
-        requires { kind < length self.old.state.rules.objects }
-        ensures accepted { IfOk result (λ refusal. IfNone refusal (IsAccepted self.old self.new payload.now (answer self.old (Call.Create kind id payload.now)) (created_what self.old kind id (length payload.now)))) }
-        ensures refused { IfOk result (λ refusal. IfSome refusal (λ why. answer self.old (Call.Create kind id payload.now) ≡ Err why)) }
-        ensures kept { IfOk result (λ refusal. IfSome refusal (λ why. self.new ≡ self.old)) }
-        ensures unchanged { OnErr result (self.new ≡ self.old) }
+    /// The job that the name means: the latest one that has it.
+    pub fn find(&self, name: JobName) -> Option<Job>
+        ensures { result ≡ find_job (state_of self.now).jobs name }
     {
-        let place = place_of(&self.rows, id);
-        if let Some(refusal) = self.refusal(place, id, payload.len()) {
-            return Ok(Some(refusal));
-        }
-        self.add(alloc, place, kind, id, payload)?;
-        Ok(None)
+        self.ledger.find(name)
     }
 
-    // Why an object with this id and a payload of this size is not made; it has this place.
-    fn refusal(&self, place: usize, id: ObjectId, size: usize) -> Option<Refusal>
-        requires { place ≡ place_in id self.now.state.graph.objects }
-        ensures refusal { (tag : Tag) (moment kind : ℕ) → tag.seat ≡ 0 → refused self.now.state moment (What.Create tag kind id size) ≡ result }
-        ensures absent { result ≡ None → object_at self.now.state.graph id ≡ None }
-        ensures room { result ≡ None → 4 * (length self.now.state.graph.objects + 1) ≤ 500000 }
-        ensures small { result ≡ None → size ≤ 512 }
+    /// The number of items that the job logged.
+    pub fn items(&self, job: Job) -> u32
+        ensures { result ≡ items_of (state_of self.now) job }
     {
-        if size > PAYLOAD_LIMIT {
-            return Some(Refusal::TooLong { len: size as u64 });
+        self.ledger.items(job)
+    }
+
+    /// The line of each job, by age; the only error is want of memory.
+    pub fn jobs(&self, alloc: Global) -> Result<List<JobLine>, AllocError>
+        ensures lines { IfOk result (λ lines. lines ≡ map (job_line (state_of self.now)) (state_of self.now).jobs) }
+        ensures few { IfOk result (λ lines. length lines ≤ 500000) }
+    {
+        let mut lines = List::new(alloc);
+        for place in 0..self.len() {
+            self.add_line(place, &mut lines)?;
         }
-        if let Some(birth) = birth_at(&self.rows, place, id) {
-            return Some(Refusal::NameTaken { id, birth });
+        Ok(lines)
+    }
+
+    // Adds the line of the job at this place, if there is one.
+    fn add_line(&self, place: u32, lines: &mut List<JobLine>) -> Result<(), AllocError>
+        ensures { OnOk result (lines.new ≡ lines.old ++ option_to_list (job_at (state_of self.now) place)) }
+    {
+        match self.ledger.job_at(place) {
+            Some(line) => {
+                let name: JobName = line.name;
+                lines.push(JobLine {
+                    job: line.job,
+                    name,
+                    root: line.root,
+                    erased: line.erased,
+                    cut: line.cut,
+                    status: line.status,
+                })
+            }
+            None => Ok(()),
         }
-        let used = self.rows.len();
-        if 4 * (used + 1) > ROOM_LIMIT {
-            let used = used as u32;
-            let owed = 3 * used;
-            return Some(Refusal::Full { used, owed });
+    }
+
+    /// The line of the job that was started at this position.
+    pub fn line_of(&self, job: Job) -> Option<JobLine>
+        ensures { result ≡ line_of_row (state_of self.now) (job_row (state_of self.now).jobs job) }
+    {
+        for place in 0..self.len() {
+            let Some(line) = self.ledger.job_at(place) else {
+                return None;
+            };
+            if line.job.0 == job.0 {
+                return Some(line);
+            }
         }
         None
     }
 
-    fn add(
-        &mut self,
-        alloc: Global,
-        place: usize,
-        kind: TypeNo,
-        id: ObjectId,
-        payload: &[u8],
-    ) -> Result<(), AllocError>
-        requires place { place ≡ place_in id self.old.state.graph.objects }
-        requires absent { object_at self.old.state.graph id ≡ None }
-        requires room { 4 * (length self.old.state.graph.objects + 1) ≤ 500000 }
-        requires small { length payload.now ≤ 512 }
-        requires kind { kind < length self.old.state.rules.objects }
-        ensures made { OnOk result (self.new ≡ after_answer self.old payload.now (Ok (created_what self.old kind id (length payload.now)))) }
-        ensures unchanged { OnErr result (self.new ≡ self.old) }
+    /// The listed item of the job at this place, by falling item number.
+    pub fn listed_at(&self, job: Job, place: u32) -> Option<Listed>
+        ensures listed { result ≡ listed_at (state_of self.now) job place }
+        ensures numbered { IfSome result (IsNumberedListed self.now.rules) }
     {
-        let moment = self.moment.max(self.clock.min(GREATEST_MOMENT));
-        let position = self.len();
-        let row = ObjectRow {
-            id,
-            kind,
-            birth: position,
-            due: due_of(self.rules.object(kind), moment),
-            at: position,
-            size: payload.len() as u16,
-        };
-        let payload = Bytes::of(alloc, payload)?;
-        self.payloads.push(payload)?;
-        let Ok(()) = self.rows.insert(place, row) else {
-            let _payload = self.payloads.pop();
-            return Err(AllocError);
-        };
-        self.moment = moment;
-        Ok(())
+        self.ledger.listed_at(job, place)
     }
 }
 
-fn due_of(rule: Option<ObjectRule>, moment: Moment) -> Moment
-    requires { moment ≤ 999999999999 }
-    ensures { result ≡ due_of rule moment }
+// A copy of the payload that the call gives.
+fn given_by(alloc: Global, call: &Call) -> Result<Bytes, AllocError>
+    ensures { IfOk result (λ given. given ≡ payload_of call.now) }
 {
-    match rule {
-        Some(ObjectRule::ShortTtl(seconds)) => moment + u64::from(seconds),
-        _ => 0,
+    match call {
+        Call::Create { payload, .. } => Bytes::of(alloc, payload.as_slice()),
+        Call::Update { payload, .. } => Bytes::of(alloc, payload.as_slice()),
+        Call::Link { payload, .. } => Bytes::of(alloc, payload.as_slice()),
+        Call::Unlink { .. } => Ok(Bytes::from_vec(Vec::new(alloc))),
+        Call::Delete { .. } => Ok(Bytes::from_vec(Vec::new(alloc))),
+        Call::Restore { .. } => Ok(Bytes::from_vec(Vec::new(alloc))),
     }
-}
-
-// The birth of the object with this id, which has this place in the order.
-fn birth_at(rows: &[ObjectRow], place: usize, id: ObjectId) -> Option<u32>
-    requires rise { IsTrue (objects_rise rows.now) }
-    requires place { place ≡ place_in id rows.now }
-    ensures { result ≡ option_map (λ row. row.birth) (find (has_id id) rows.now) }
-{
-    if place >= rows.len() {
-        return None;
-    }
-    let row = rows[place];
-    if row.id.get() == id.get() {
-        Some(row.birth)
-    } else {
-        None
-    }
-}
-
-// The number of rows with a lesser id, which is the place of this id in the order.
-fn place_of(rows: &[ObjectRow], id: ObjectId) -> usize
-    requires { IsTrue (objects_rise rows.now) }
-    ensures { result ≡ place_in id rows.now }
-{
-    let id = id.get();
-    let mut low = 0;
-    let mut high = rows.len();
-    'halves: while low < high {
-        let middle = low + (high - low) / 2;
-        if rows[middle].id.get() < id {
-            low = middle + 1;
-        } else {
-            high = middle;
-        }
-    }
-    low
 }

@@ -1,7 +1,10 @@
-use Rattle.std.proofs.Common.{ℕ, ◌++◌, List, length, sym, ap, refl, ◌∙◌, arith, append-nil}
+use Rattle.std.proofs.Common.{ℕ, ◌++◌, List, length, take, sym, ap, refl, ◌∙◌, arith, append-nil}
+use Rattle.delf_model.specs.declared.script.Command.{Command}
 use Rattle.delf_model.specs.RuleSet.{RuleSet}
-use Rattle.script_runner.specs.Stores.{World}
-use Rattle.script_runner.proofs.Scripts.{text_of-none, world_after-none, text_more, world_more, rules_stay}
+use Rattle.script_runner.specs.Worlds.{World}
+use Rattle.script_runner.specs.Serial.{text_of, world_after}
+use Rattle.script_runner.proofs.Loops.{take_past}
+use Rattle.script_runner.proofs.Scripts.{text_of-none, world_after-none, text_more, world_more, rules_stay, whole_text, names_here, numbered_here, served_here}
 use Rattle.script_runner.proofs.run.run_commands.Goals as goal
 
 pub loop-command-init : goal.loop-command-init
@@ -10,9 +13,19 @@ loop-command-init g c = record {
   held = λ told. sym (ap (λ (t : List ℕ). g.K.Sink.held c.args.sink.now ++ t) (text_of-none c.args.schema.now c.args.store) ∙ append-nil (g.K.Sink.held c.args.sink.now));
   world = sym (world_after-none c.args.store);
   done = refl;
-  numbered = c.requires.numbered;
+  rules = refl;
   faults = refl;
 }
+
+pub perform-requires-clause-named : goal.perform-requires-clause-named
+perform-requires-clause-named g c = names_here c.args.schema.now c.args.store.rules c.loop-command.store.rules c.loop-command.invariant.rules c.requires.named
+
+pub perform-requires-clause-numbered : goal.perform-requires-clause-numbered
+perform-requires-clause-numbered g c = numbered_here c.args.store.rules c.loop-command.store.rules c.args.commands.now c.loop-command.command-index c.command-item.result
+    c.loop-command.invariant.rules (omega arith) c.command-item.is c.requires.numbered
+
+pub perform-requires-clause-served : goal.perform-requires-clause-served
+perform-requires-clause-served g c = served_here c.args.commands.now c.loop-command.command-index c.command-item.result (omega arith) c.command-item.is c.requires.served
 
 pub loop-command-preserved : goal.loop-command-preserved
 loop-command-preserved g c =
@@ -25,7 +38,13 @@ loop-command-preserved g c =
       world = world_more c.args.store c.args.commands.now c.loop-command.command-index c.command-item.result c.loop-command.store c.perform.new.store
           (omega arith) c.command-item.is inv.world c.in-Ok.ensures.next;
       done = omega arith;
-      numbered = ap (λ (w : World). length w.state.rules.objects) c.in-Ok.ensures.next
-          ∙ ap (λ (r : RuleSet). length r.objects) (rules_stay c.loop-command.store c.command-item.result) ∙ inv.numbered;
+      rules = ap (λ (w : World). w.rules) c.in-Ok.ensures.next
+          ∙ rules_stay c.loop-command.store c.command-item.result ∙ inv.rules;
       faults = c.in-Ok-put_all.ensures.ok_stays ∙ inv.faults;
     }
+
+pub returns-clause-text : goal.returns-clause-text
+returns-clause-text g c = λ told.
+    let all = take_past c.args.commands.now c.loop-command.command-index (omega arith) in
+    whole_text c.args.schema.now c.args.store c.args.commands.now c.loop-command.command-index c.loop-command.store (g.K.Sink.held c.args.sink.now)
+    (g.K.Sink.held c.loop-command.sink) all c.loop-command.invariant.world (c.loop-command.invariant.held told) c.len-len.ensures.legal c.len-len.ensures.sound

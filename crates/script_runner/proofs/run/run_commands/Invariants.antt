@@ -9,6 +9,6 @@ invariant-loop-command g l = record {
       g.K.Sink.held l.sink ≡ g.K.Sink.held l.initial.sink ++ text_of l.schema l.initial.store (take l.command-index l.commands);
   world : l.store ≡ world_after l.initial.store (take l.command-index l.commands);
   done : l.done ≡ l.command-index;
-  numbered : length l.store.state.rules.objects ≡ length l.schema.objects;
+  rules : l.store.rules ≡ l.initial.store.rules;
   faults : g.K.Sink.faults l.sink ≡ g.K.Sink.faults l.initial.sink;
 }

@@ -1,4 +1,5 @@
 use Rattle.std.proofs.Common.{◌≡◌, ◌++◌, ℕ, List, sym, subst, arith}
+use Rattle.script_runner.specs.Requests.{moment_of_start}
 use Rattle.script_runner.proofs.Sources.{source_text, source_cause}
 use Rattle.script_runner.proofs.run.run_source.Goals as goal
 
@@ -16,6 +17,6 @@ returns-in-Ok-clause-text g c = λ sunk.
     let read : List ℕ = c.as_slice.result.now in
     let left = g.S.Source.left c.args.source.now in
     let rest = g.S.Source.left c.read_at_most.new.source in
-    source_text (g.S.Source.told c.args.source.now) left read rest c.args.start _ _ c.run_bytes.result
+    source_text (g.S.Source.told c.args.source.now) left read rest (moment_of_start c.args.start (g.C.Clock.last_answer c.run_bytes.new.clock)) _ _ c.run_bytes.result
     (λ told. subst (λ (t : List ℕ). left ≡ t ++ rest) (sym c.as_slice.ensures.value) (c.in-Ok.ensures.taken told))
     (λ told short. c.in-Ok.ensures.whole told (omega (arith, c.as_slice.ensures.len))) (c.run_bytes.ensures.text sunk)

@@ -1,9 +1,14 @@
-use Rattle.std.proofs.Common.{◌≡◌, None, subst}
-use Rattle.delf_model.specs.State.{owner}
-use Rattle.script_runner.specs.Stores.{World}
-use Rattle.script_runner.proofs.Creates.{owner_of}
+use Rattle.std.proofs.lemmas.Result.{IfOk-weaker}
+use Rattle.live_graph.specs.ListGraph.{graph_of}
+use Rattle.script_runner.proofs.Keeping.{world, objects_if, objects_count}
 use Rattle.script_runner.proofs.store.Store.objects.Goals as goal
 
-pub returns-clause-unowned : goal.returns-clause-unowned
-returns-clause-unowned c = λ id. subst (λ (w : World). owner w.state id ≡ None) c.self.view_is
-    (owner_of c.self.inside.rules c.self.inside.moment c.self.inside.rows.items c.self.inside.payloads.items id)
+pub returns-clause-numbered : goal.returns-clause-numbered
+returns-clause-numbered c = IfOk-weaker c.objects.result _ _ (λ rows is. objects_if c.args.self.now
+    (world c.self.inside.ledger.rules c.self.inside.ledger.history c.self.inside.given.items c.self.inside.clock)
+    (graph_of c.graph.result.now) rows.items c.self.view_is c.self.invariant.legal c.graph.ensures.of.graph is) c.objects.ensures
+
+pub returns-clause-few : goal.returns-clause-few
+returns-clause-few c = IfOk-weaker c.objects.result _ _ (λ rows is. objects_count
+    (world c.self.inside.ledger.rules c.self.inside.ledger.history c.self.inside.given.items c.self.inside.clock)
+    (graph_of c.graph.result.now) rows.items c.self.invariant.legal c.graph.ensures.of.graph is) c.objects.ensures

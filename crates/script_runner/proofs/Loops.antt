@@ -1,0 +1,163 @@
+-- A text that grows line by line, steps that are made one by one, and jobs found by their start.
+use Rattle.std.proofs.Common.{◌≡◌, ℕ, zero, suc, ◌+◌, ◌≤◌, ◌<◌, Bool, true, false, cond, eqb, Option, Some, None, List, [], ◌∷◌, ◌++◌, length, get_or, take, flat_map, refl, sym, ap, ◌∙◌, arith, add-one, append-nil}
+use Rattle.std.proofs.lemmas.List.{take_more, flat_map_more, length-take, length-map}
+use Rattle.std.proofs.lemmas.Bool.{eqb-true, eq-eqb}
+use Rattle.std.specs.Prelude.{find, map, slice_get, option_to_list}
+use Rattle.delf_model.specs.declared.entry.What.{What}
+use Rattle.delf_model.specs.declared.call.JobLine.{JobLine}
+use Rattle.delf_model.specs.State.{State, JobRow, job_row, starts_at}
+use Rattle.delf_model.specs.Report.{job_line, job_at, line_of_row}
+use Rattle.script_runner.specs.Worlds.{World}
+use Rattle.script_runner.specs.Serial.{next_step, after_step, world_worked}
+
+-- an element more, known by its place
+
+slice_suc : {A : Type 0} (xs : List A) (i : ℕ) (x : A) → slice_get xs i ≡ Some x → take (suc i) xs ≡ take i xs ++ x ∷ []
+slice_suc [] i x is = absurd (cc is)
+slice_suc (y ∷ ys) zero x is = let same : y ≡ x = cc in ap (λ (z : _). z ∷ []) same
+slice_suc (y ∷ ys) (suc i) x is = ap (λ (zs : List _). y ∷ zs) (slice_suc ys i x is)
+
+slice_more : {A : Type 0} (xs : List A) (i : ℕ) (x : A) → slice_get xs i ≡ Some x → take (i + 1) xs ≡ take i xs ++ x ∷ []
+slice_more xs i x is = ap (λ (n : ℕ). take n xs) (add-one i) ∙ slice_suc xs i x is
+
+pub slice_past : {A : Type 0} (xs : List A) (i : ℕ) → slice_get xs i ≡ None → take i xs ≡ xs
+slice_past [] zero is = refl
+slice_past [] (suc i) is = refl
+slice_past (y ∷ ys) zero is = absurd (cc is)
+slice_past (y ∷ ys) (suc i) is = ap (λ (zs : List _). y ∷ zs) (slice_past ys i is)
+
+pub take_past : {A : Type 0} (xs : List A) (n : ℕ) → length xs ≤ n → take n xs ≡ xs
+take_past [] zero is = refl
+take_past [] (suc n) is = refl
+take_past (y ∷ ys) zero is = absurd (omega arith)
+take_past (y ∷ ys) (suc n) is = ap (λ (zs : List _). y ∷ zs) (take_past ys n (omega arith))
+
+flat_map-snoc : {A : Type 0} (f : A → List ℕ) (xs : List A) (x : A) → flat_map f (xs ++ x ∷ []) ≡ flat_map f xs ++ f x
+flat_map-snoc f xs x = sym (flat_map_more f [] xs x)
+
+-- the text with the line of one element more
+pub text_grows : {A : Type 0} (f : A → List ℕ) (xs : List A) (i : ℕ) (x : A) (before after line : List ℕ) → i < length xs → x ≡ get_or xs i x →
+    before ≡ flat_map f (take i xs) → line ≡ f x → after ≡ before ++ line → after ≡ flat_map f (take (i + 1) xs)
+text_grows f xs i x before after line below is so_far said grown =
+    grown ∙ ap (λ (t : List ℕ). t ++ line) so_far ∙ ap (λ (t : List ℕ). flat_map f (take i xs) ++ t) said
+    ∙ sym (flat_map-snoc f (take i xs) x)
+    ∙ ap (flat_map f) (sym (take_more xs i x below ∙ ap (λ (y : _). take i xs ++ y ∷ []) (sym is)))
+
+pub text_grows_at : {A : Type 0} (f : A → List ℕ) (xs : List A) (i : ℕ) (x : A) (before after line : List ℕ) → slice_get xs i ≡ Some x →
+    before ≡ flat_map f (take i xs) → line ≡ f x → after ≡ before ++ line → after ≡ flat_map f (take (i + 1) xs)
+text_grows_at f xs i x before after line is so_far said grown =
+    grown ∙ ap (λ (t : List ℕ). t ++ line) so_far ∙ ap (λ (t : List ℕ). flat_map f (take i xs) ++ t) said
+    ∙ sym (flat_map-snoc f (take i xs) x) ∙ ap (flat_map f) (sym (slice_more xs i x is))
+
+-- steps
+
+-- where no step is left the world stays
+pub worked_idle : (n : ℕ) (w : World) → next_step w ≡ None → world_worked n w ≡ w
+unfolding world_worked
+worked_idle zero w none = refl
+worked_idle (suc n) w none = ap (λ (o : Option What). world_worked n (after_step w o)) none ∙ worked_idle n w none
+
+pub worked_none : (w : World) → world_worked 0 w ≡ w
+unfolding world_worked
+worked_none w = refl
+
+pub worked_more : (n : ℕ) (w : World) (step : Option What) → step ≡ next_step w → world_worked (suc n) w ≡ world_worked n (after_step w step)
+unfolding world_worked
+worked_more n w step is = ap (λ (o : Option What). world_worked n (after_step w o)) (sym is)
+
+-- job lines
+
+line_at : (s : State) (rows : List JobRow) (i : ℕ) (line : JobLine) → line_of_row s (slice_get rows i) ≡ Some line → slice_get (map (job_line s) rows) i ≡ Some line
+line_at s [] i line is = is
+line_at s (x ∷ xs) zero line is = is
+line_at s (x ∷ xs) (suc i) line is = line_at s xs i line is
+
+past_at : (s : State) (o : Option JobRow) → line_of_row s o ≡ None → o ≡ None
+past_at s None is = refl
+past_at s (Some row) is = absurd (cc is)
+
+-- the lines so far with one more
+pub lines_grow : (s : State) (i : ℕ) (line : JobLine) (before after : List JobLine) → Some line ≡ job_at s i →
+    before ≡ take i (map (job_line s) s.jobs) → after ≡ before ++ line ∷ [] → after ≡ take (i + 1) (map (job_line s) s.jobs)
+lines_grow s i line before after is so_far grown =
+    grown ∙ ap (λ (ls : List JobLine). ls ++ line ∷ []) so_far ∙ sym (slice_more (map (job_line s) s.jobs) i line (line_at s s.jobs i line (sym is)))
+
+map_past : (s : State) (rows : List JobRow) (i : ℕ) → slice_get rows i ≡ None → slice_get (map (job_line s) rows) i ≡ None
+map_past s [] i is = refl
+map_past s (x ∷ xs) zero is = absurd (cc is)
+map_past s (x ∷ xs) (suc i) is = map_past s xs i is
+
+-- past the last job there is none to add
+pub lines_past : (s : State) (i : ℕ) (before : List JobLine) → None ≡ job_at s i → before ≡ take i (map (job_line s) s.jobs) →
+    before ≡ take (i + 1) (map (job_line s) s.jobs)
+lines_past s i before is so_far =
+    let all = map (job_line s) s.jobs in
+    let past : take i all ≡ all = slice_past all i (map_past s s.jobs i (past_at s (slice_get s.jobs i) (sym is))) in
+    so_far ∙ past ∙ sym (take_past all (i + 1) (longer all i past))
+  where
+    longer : (all : List JobLine) (i : ℕ) → take i all ≡ all → length all ≤ i + 1
+    longer all i past = omega (arith, ap length past, length-take i all)
+
+pub lines_next : (s : State) (i : ℕ) (o : Option JobLine) (before after : List JobLine) → o ≡ job_at s i → before ≡ take i (map (job_line s) s.jobs) →
+    after ≡ before ++ option_to_list o → after ≡ take (i + 1) (map (job_line s) s.jobs)
+lines_next s i None before after is so_far next = next ∙ append-nil before ∙ lines_past s i before is so_far
+lines_next s i (Some line) before after is so_far next = lines_grow s i line before after is so_far next
+
+pub lines_all : (s : State) (n : ℕ) (lines : List JobLine) → length s.jobs ≤ n → lines ≡ take n (map (job_line s) s.jobs) → lines ≡ map (job_line s) s.jobs
+lines_all s n lines few so_far =
+    so_far ∙ take_past (map (job_line s) s.jobs) n (omega (arith, length-map s.jobs (job_line s)))
+
+-- a job found by its start, or not among the first ones
+
+none_suc : (p : JobRow → Bool) (rows : List JobRow) (i : ℕ) (row : JobRow) → slice_get rows i ≡ Some row → p row ≡ false →
+    find p (take i rows) ≡ None → find p (take (suc i) rows) ≡ None
+none_suc p [] i row is other before = absurd (cc is)
+none_suc p (x ∷ xs) zero row is other before = let same : x ≡ row = cc in ap (λ (b : Bool). cond b (Some x) None) (ap p same ∙ other)
+none_suc p (x ∷ xs) (suc i) row is other before = none_cons x (p x) (find p (take i xs)) (find p (take (suc i) xs)) (none_suc p xs i row is other) before
+  where
+    none_cons : (x : JobRow) (b : Bool) (found more : Option JobRow) → (found ≡ None → more ≡ None) → cond b (Some x) found ≡ None → cond b (Some x) more ≡ None
+    none_cons x true found more next none = absurd (cc none)
+    none_cons x false found more next none = next none
+
+none_more : (p : JobRow → Bool) (rows : List JobRow) (i : ℕ) (row : JobRow) → slice_get rows i ≡ Some row → p row ≡ false →
+    find p (take i rows) ≡ None → find p (take (i + 1) rows) ≡ None
+none_more p rows i row is other before = ap (λ (n : ℕ). find p (take n rows)) (add-one i) ∙ none_suc p rows i row is other before
+
+found_here : (p : JobRow → Bool) (rows : List JobRow) (i : ℕ) (row : JobRow) → slice_get rows i ≡ Some row → p row ≡ true →
+    find p (take i rows) ≡ None → find p rows ≡ Some row
+found_here p [] i row is met before = absurd (cc is)
+found_here p (x ∷ xs) zero row is met before = let same : x ≡ row = cc in
+    ap (λ (b : Bool). cond b (Some x) (find p xs)) (ap p same ∙ met) ∙ ap (λ (r : JobRow). Some r) same
+found_here p (x ∷ xs) (suc i) row is met before = found_cons x row (p x) (find p (take i xs)) (find p xs) (found_here p xs i row is met) before
+  where
+    found_cons : (x row : JobRow) (b : Bool) (found more : Option JobRow) → (found ≡ None → more ≡ Some row) → cond b (Some x) found ≡ None → cond b (Some x) more ≡ Some row
+    found_cons x row true found more next none = absurd (cc none)
+    found_cons x row false found more next none = next none
+
+differ : (a b : ℕ) (c : Bool) → eqb a b ≡ c → (a ≡ b → ⊥) → c ≡ false
+differ a b true is unequal = absurd (unequal (eqb-true a b is))
+differ a b false is unequal = refl
+
+pub line_passed : (s : State) (i job : ℕ) (line : JobLine) (o : Option JobRow) → slice_get s.jobs i ≡ o → Some line ≡ line_of_row s o → (line.job ≡ job → ⊥) →
+    job_row (take i s.jobs) job ≡ None → job_row (take (i + 1) s.jobs) job ≡ None
+line_passed s i job line None at is other before = absurd (cc is)
+line_passed s i job line (Some row) at is other before =
+    let same : line ≡ job_line s row = cc in
+    let start : line.job ≡ row.start = ap (λ (l : JobLine). l.job) same in
+    none_more (starts_at job) s.jobs i row at (differ row.start job (eqb row.start job) refl (λ e. other (start ∙ e))) before
+
+pub line_met : (s : State) (i job : ℕ) (line : JobLine) (o : Option JobRow) → slice_get s.jobs i ≡ o → Some line ≡ line_of_row s o → line.job ≡ job →
+    job_row (take i s.jobs) job ≡ None → Some line ≡ line_of_row s (job_row s.jobs job)
+line_met s i job line None at is here before = absurd (cc is)
+line_met s i job line (Some row) at is here before =
+    let same : line ≡ job_line s row = cc in
+    let start : line.job ≡ row.start = ap (λ (l : JobLine). l.job) same in
+    is ∙ ap (line_of_row s) (sym (found_here (starts_at job) s.jobs i row at (eq-eqb row.start job (sym start ∙ here)) before))
+
+pub line_missed : (s : State) (i job : ℕ) → None ≡ job_at s i → job_row (take i s.jobs) job ≡ None → None ≡ line_of_row s (job_row s.jobs job)
+line_missed s i job is before =
+    ap (line_of_row s) (sym (ap (λ (rows : List JobRow). job_row rows job) (sym (slice_past s.jobs i (past_at s (slice_get s.jobs i) (sym is)))) ∙ before))
+
+pub line_absent : (s : State) (n job : ℕ) → length s.jobs ≤ n → job_row (take n s.jobs) job ≡ None → None ≡ line_of_row s (job_row s.jobs job)
+line_absent s n job few before =
+    ap (line_of_row s) (sym (ap (λ (rows : List JobRow). job_row rows job) (sym (take_past s.jobs n few)) ∙ before))

@@ -1,0 +1,8 @@
+use Rattle.std.proofs.Common.{◌∙◌}
+use Rattle.std.proofs.lemmas.Result.{IfOk-weaker}
+use Rattle.script_runner.proofs.Nameless.{refusal_nameless}
+use Rattle.script_runner.proofs.answers.refused_line.Goals as goal
+
+pub returns-in_ok-unprinted_name-in_default : goal.returns-in_ok-unprinted_name-in_default
+returns-in_ok-unprinted_name-in_default c = IfOk-weaker c.refusal_line-in_default-2.result _ _
+    (λ text said. said ∙ refusal_nameless c.args.schema.now c.args.refusal.now c.args.len _ c.in_default.not-WrongEnd) c.refusal_line-in_default-2.ensures
