@@ -96,8 +96,12 @@ one_if_of false i it how = omega arith
 listed_few : (job i : ℕ) (xs : List Logged) → length (listed_from job i xs) ≤ length xs
 listed_few job i [] = omega arith
 listed_few job i (x ∷ xs) =
-    omega (arith, length-append (listed_from job (i + 1) xs) (cond (is_of_job job x) (listed_by i x.item x.handled) []), listed_few job (i + 1) xs,
-    one_if_of (is_of_job job x) i x.item x.handled)
+    omega (
+      arith,
+      length-append (listed_from job (i + 1) xs) (cond (is_of_job job x) (listed_by i x.item x.handled) []),
+      listed_few job (i + 1) xs,
+      one_if_of (is_of_job job x) i x.item x.handled,
+    )
 
 pub listed_within : (rules : RuleSet) (h : List Entry) (job : ℕ) → length (listed_from job 0 (after rules h).items) ≤ length h
 listed_within rules h job = omega (arith, items_within rules h, listed_few job 0 (after rules h).items)

@@ -98,20 +98,53 @@ each_numbered s moment (Create tag kind id size) all =
     (long s size, (by_object (length s.rules.objects) (object_at s.graph id), (roomless s moment (Create tag kind id size), tt)))
 each_numbered s moment (Update tag id size) all =
     (long s size, (gone s id, (held s id, (roomless s moment (Update tag id size), tt))))
-each_numbered s moment (Link tag edge from to size) all =
-    (long s size, (gone s from, (gone s to, (held s from, (held s to,
-    (source s from (slice_get s.rules.edges edge) all, (target s to (slice_get s.rules.edges edge) all,
-    (by_edge (length s.rules.objects) (edge_at s.graph (key_of edge from to)), (roomless s moment (Link tag edge from to size), tt)))))))))
-each_numbered s moment (Unlink tag edge from to name) all =
-    (gone s from, (gone s to, (held s from, (held s to,
-    (either (length s.rules.objects) (edge_stands s.graph (key_of edge from to)) None (Some NoEdge) tt tt,
-    (either (length s.rules.objects) (is_some (unlink_start s edge from to name)) (job_taken s name) None (taken s name) tt, tt))))))
+each_numbered s moment (Link tag edge from to size) all = (
+  long s size,
+  (
+    gone s from,
+    (
+      gone s to,
+      (
+        held s from,
+        (
+          held s to,
+          (
+            source s from (slice_get s.rules.edges edge) all,
+            (
+              target s to (slice_get s.rules.edges edge) all,
+              (by_edge (length s.rules.objects) (edge_at s.graph (key_of edge from to)), (roomless s moment (Link tag edge from to size), tt)),
+            ),
+          ),
+        ),
+      ),
+    ),
+  ),
+)
+each_numbered s moment (Unlink tag edge from to name) all = (
+  gone s from,
+  (
+    gone s to,
+    (
+      held s from,
+      (
+        held s to,
+        (
+          either (length s.rules.objects) (edge_stands s.graph (key_of edge from to)) None (Some NoEdge) tt tt,
+          (either (length s.rules.objects) (is_some (unlink_start s edge from to name)) (job_taken s name) None (taken s name) tt, tt),
+        ),
+      ),
+    ),
+  ),
+)
 each_numbered s moment (Delete tag id name) all =
     (gone s id, (held s id, (by_row s (object_at s.graph id), (taken s name, tt))))
-each_numbered s moment (Restore tag job) all =
-    (either (length s.rules.objects) (is_some (job_row s.jobs job)) None (Some NoJob) tt tt,
-    (either (length s.rules.objects) (nat_eq (owned s job) 0) None (Some (Pending (owned s job))) tt tt,
-    (by_restored (length s.rules.objects) (job_row s.jobs job), (by_window s moment (job_row s.jobs job), (roomless s moment (Restore tag job), tt)))))
+each_numbered s moment (Restore tag job) all = (
+  either (length s.rules.objects) (is_some (job_row s.jobs job)) None (Some NoJob) tt tt,
+  (
+    either (length s.rules.objects) (nat_eq (owned s job) 0) None (Some (Pending (owned s job))) tt tt,
+    (by_restored (length s.rules.objects) (job_row s.jobs job), (by_window s moment (job_row s.jobs job), (roomless s moment (Restore tag job), tt))),
+  ),
+)
 each_numbered s moment (Expire id) all = tt
 each_numbered s moment (Cut job edge from to) all = tt
 each_numbered s moment (Erase job id) all = tt

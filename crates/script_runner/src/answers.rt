@@ -62,7 +62,14 @@ fn accepted_line(
             name,
         } => {
             let started = started_by(store, position, *name);
-            unlinked_line(alloc, position, edge_name(schema, *edge), *from, *to, started)
+            unlinked_line(
+                alloc,
+                position,
+                edge_name(schema, *edge),
+                *from,
+                *to,
+                started,
+            )
         }
         Call::Delete { id, name } => deleting_line(alloc, position, *id, *name),
         Call::Restore { name } => {

@@ -167,12 +167,7 @@ fn put_fault<K: Sink>(alloc: Global, fault: DocumentFault, sink: &mut K) -> Stat
     }
 }
 
-fn run_document<K: Sink>(
-    alloc: Global,
-    moment: Moment,
-    document: Document,
-    sink: &mut K,
-) -> Status
+fn run_document<K: Sink>(alloc: Global, moment: Moment, document: Document, sink: &mut K) -> Status
     requires named { HasNames document.schema document.rules }
     requires numbered { All (IsNumberedCommand document.rules) document.commands }
     requires served { All IsServed document.commands }

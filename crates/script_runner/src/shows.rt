@@ -12,12 +12,7 @@ use job_report::{absent_line, edge_line, found_line, graph_line, object_line};
 use std::alloc::{AllocError, Global};
 
 /// The line of an object with its owner, or that there is none.
-pub fn get(
-    alloc: Global,
-    schema: &Schema,
-    store: &Store,
-    id: ObjectId,
-) -> Result<Bytes, AllocError>
+pub fn get(alloc: Global, schema: &Schema, store: &Store, id: ObjectId) -> Result<Bytes, AllocError>
     requires { HasNames schema.now store.now.rules }
     ensures { IfOk result (λ text. text ≡ row_found schema.now store.now id (object_at (state_of store.now).graph id)) }
 {

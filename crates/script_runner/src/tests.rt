@@ -7,7 +7,8 @@ use std::process::Abort;
 use std::test::Fail;
 
 // Users own photos and sessions, and like photos; albums hold photos.
-const PHOTOS: &str = "schema 1\nwindow 100\nobject user directly\nobject photo by_any\nobject album directly\nobject session short_ttl 60\nedge owns user photo deep\nedge likes user photo shallow\nedge holds album photo refcount\nedge uses user session deep\nscript\n";
+const PHOTOS: &str =
+    "schema 1\nwindow 100\nobject user directly\nobject photo by_any\nobject album directly\nobject session short_ttl 60\nedge owns user photo deep\nedge likes user photo shallow\nedge holds album photo refcount\nedge uses user session deep\nscript\n";
 
 fn run_words(
     alloc: Global,
@@ -33,7 +34,13 @@ fn run_words(
 }
 
 // That the script under the schema is made to its end, and prints this text.
-fn prints(rt: &impl Abort, alloc: Global, schema: &str, script: &str, text: &str) -> Result<(), Fail> {
+fn prints(
+    rt: &impl Abort,
+    alloc: Global,
+    schema: &str,
+    script: &str,
+    text: &str,
+) -> Result<(), Fail> {
     let (status, sink) = run_words(alloc, &["run", "--at", "0"], &[schema, script], &[], &[])?;
     assert_eq!(rt; status, Status::Done);
     assert_eq!(rt; status.code(), 0);
@@ -180,14 +187,21 @@ fn what_is_live_is_told(rt: HostRuntime) -> Result<(), Fail> {
 
 #[test]
 fn the_words_give_the_start(rt: HostRuntime) -> Result<(), Fail> {
-    let document = [PHOTOS, "create 7 session\nwork 1\ntick 60\nwork 1\ndelete 7 job 1\n"];
+    let document = [
+        PHOTOS,
+        "create 7 session\nwork 1\ntick 60\nwork 1\ndelete 7 job 1\n",
+    ];
     let text = b"0 created 7\nwork 0 idle\nwork 1\nrefused 4 at 2 condemned 7 by 1\n";
     for words in [["run", "--at=5"].as_slice(), ["run"].as_slice()] {
         let (status, sink) = run_words(rt.alloc(), words, &document, &[], &[])?;
         assert_eq!(rt; status, Status::Done);
         assert_eq!(rt; sink.held(), text.as_slice());
     }
-    for words in [["run", "--at", "05"].as_slice(), ["run", "--at="].as_slice(), ["walk"].as_slice()] {
+    for words in [
+        ["run", "--at", "05"].as_slice(),
+        ["run", "--at="].as_slice(),
+        ["walk"].as_slice(),
+    ] {
         let (status, sink) = run_words(rt.alloc(), words, &document, &[], &[])?;
         assert_eq!(rt; status, Status::Usage);
         assert_eq!(rt;
@@ -199,7 +213,13 @@ fn the_words_give_the_start(rt: HostRuntime) -> Result<(), Fail> {
 }
 
 // That the document is not run, for the fault of this line.
-fn refuses(rt: &impl Abort, alloc: Global, document: &str, line: u32, text: &str) -> Result<(), Fail> {
+fn refuses(
+    rt: &impl Abort,
+    alloc: Global,
+    document: &str,
+    line: u32,
+    text: &str,
+) -> Result<(), Fail> {
     let (status, sink) = run_words(alloc, &["run", "--at", "5"], &[document], &[], &[])?;
     assert_eq!(rt; status, Status::BadDocument { line });
     assert_eq!(rt; sink.held(), text.as_bytes());
@@ -210,7 +230,13 @@ fn refuses(rt: &impl Abort, alloc: Global, document: &str, line: u32, text: &str
 fn the_first_fault_is_told(rt: HostRuntime) -> Result<(), Fail> {
     let alloc = rt.alloc();
     refuses(&rt, alloc, "", 1, "line 1: malformed\n")?;
-    refuses(&rt, alloc, "schema 1\nwindow 31536001\n", 2, "line 2: out of range\n")?;
+    refuses(
+        &rt,
+        alloc,
+        "schema 1\nwindow 31536001\n",
+        2,
+        "line 2: out of range\n",
+    )?;
     refuses(
         &rt,
         alloc,
