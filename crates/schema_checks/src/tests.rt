@@ -147,6 +147,35 @@ fn passes(rt: HostRuntime) -> Result<(), Fail> {
     Ok(())
 }
 
+// Users own photos and sessions, and like photos; albums hold photos.
+fn photo_types(alloc: Global, rows: &mut Rows) -> Result<(), Fail> {
+    rows.object(alloc, "user", ObjectRule::Directly)?;
+    rows.object(alloc, "photo", ObjectRule::ByAny)?;
+    rows.object(alloc, "album", ObjectRule::Directly)?;
+    rows.object(alloc, "session", ObjectRule::ShortTtl(60))
+}
+
+fn photo_edges(alloc: Global, rows: &mut Rows) -> Result<(), Fail> {
+    rows.edge(alloc, "owns", "user", "photo", EdgeRule::Deep)?;
+    rows.edge(alloc, "likes", "user", "photo", EdgeRule::Shallow)?;
+    rows.edge(alloc, "holds", "album", "photo", EdgeRule::Refcount)?;
+    rows.edge(alloc, "uses", "user", "session", EdgeRule::Deep)
+}
+
+/// Four types and four edge types; the one `by_any` type is reached by the least of two routes of one edge type.
+#[test]
+fn photos(rt: HostRuntime) -> Result<(), Fail> {
+    let mut rows = Rows::new(rt.alloc());
+    photo_types(rt.alloc(), &mut rows)?;
+    photo_edges(rt.alloc(), &mut rows)?;
+    let checked = rows.check(&rt, rt.alloc())?;
+    assert_eq!(rt; checked.rules().objects_len(), 4);
+    assert_eq!(rt; checked.rules().edges_len(), 4);
+    assert_eq!(rt; checked.route(TypeNo(1), 0), Some(EdgeNo(0)));
+    assert_eq!(rt; checked.route(TypeNo(1), 1), None);
+    Ok(())
+}
+
 /// Two shortest routes of `d`, and a longer one that begins with a lower number: the least of the shortest ones.
 #[test]
 fn diamond(rt: HostRuntime) -> Result<(), Fail> {
