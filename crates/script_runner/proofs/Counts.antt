@@ -1,8 +1,8 @@
 -- A history has at least as many entries as jobs and items, and room for its rows.
-use Rattle.std.proofs.Common.{◌≡◌, ℕ, zero, suc, ◌+◌, ◌≤◌, Bool, true, false, cond, Option, Some, None, List, [], ◌∷◌, ◌++◌, length, refl, sym, ap, ◌∙◌, arith, length-append}
+use Rattle.std.proofs.Common.{◌≡◌, ℕ, zero, suc, ◌+◌, ◌≤◌, Bool, true, false, cond, Option, Some, None, List, [], ◌∷◌, length, refl, arith, length-append}
 use Rattle.std.proofs.lemmas.List.{length-map}
 use Rattle.std.proofs.lemmas.List.Sums.{sum_by-cons}
-use Rattle.std.specs.Prelude.{sum_by, is_some, slice_get, map}
+use Rattle.std.specs.Prelude.{sum_by, is_some, slice_get}
 use Rattle.delf_model.specs.declared.ids.JobName.{JobName}
 use Rattle.delf_model.specs.declared.rows.ObjectRow.{ObjectRow}
 use Rattle.delf_model.specs.declared.rows.EdgeRow.{EdgeRow}
@@ -13,8 +13,8 @@ use Rattle.delf_model.specs.declared.entry.What.{What}
 use Rattle.delf_model.specs.declared.entry.What.TheVariants.{Create, Update, Link, Unlink, Delete, Restore, Expire, Cut, Erase, Put, Purge}
 use Rattle.delf_model.specs.RuleSet.{RuleSet}
 use Rattle.delf_model.specs.Graph.{object_at, edge_at}
-use Rattle.delf_model.specs.State.{State, Logged, Handled, JobRow, Owners, start, step, run, after, jobs_after, items_after, started_job, unlink_start, restored_at, erased_at, purged_if, edge_item, object_item, handled_at, outcome, owner_in, key_of}
-use Rattle.delf_model.specs.Legal.{Legal, is_legal, owed_for_object, owed_for_edge, room_limit}
+use Rattle.delf_model.specs.State.{State, Logged, Handled, Owners, start, step, run, after, jobs_after, items_after, started_job, unlink_start, restored_at, erased_at, purged_if, edge_item, object_item, handled_at, outcome, owner_in, key_of}
+use Rattle.delf_model.specs.Legal.{Legal, owed_for_object, owed_for_edge}
 use Rattle.delf_model.specs.Report.{listed_from, listed_by, listed_with, is_of_job}
 use Rattle.delf_model.proofs.Good.{good_after}
 

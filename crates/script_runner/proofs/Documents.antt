@@ -1,5 +1,5 @@
 -- Why bytes are a document, or which fault of theirs is tried first.
-use Rattle.std.proofs.Common.{◌≡◌, ℕ, zero, suc, ◌≤◌, ◌<◌, Result, Ok, Err, List, [], ◌∷◌, length, get_or, refl, sym, ap, subst, ◌∙◌, arith}
+use Rattle.std.proofs.Common.{◌≡◌, ℕ, zero, suc, ◌≤◌, ◌<◌, Err, List, [], ◌∷◌, length, get_or, refl, sym, ap, subst, ◌∙◌, arith}
 use Rattle.std.proofs.lemmas.List.{length-map}
 use Rattle.std.specs.Prelude.{codes, false}
 use Rattle.std.specs.Str.Lines.{lines}
@@ -10,7 +10,6 @@ use Rattle.delf_model.specs.declared.schema.ObjectRule.{ObjectRule}
 use Rattle.delf_model.specs.declared.schema.ObjectRule.TheVariants.{Directly, DirectlyOnly, ByAny, ShortTtl, NotDeleted}
 use Rattle.delf_model.specs.declared.rules.Broken.{Broken}
 use Rattle.delf_model.specs.declared.rules.Broken.TheVariants.{ObjectTwice, EdgeTwice, Undeclared, CannotTake, NoRoute}
-use Rattle.delf_model.specs.declared.call.Call.{Call}
 use Rattle.delf_model.specs.declared.call.Call.TheVariants as call
 use Rattle.delf_model.specs.declared.script.Command.{Command}
 use Rattle.delf_model.specs.declared.script.Command.TheVariants.{Submit, Work, Tick, Get, Show, Job, Jobs, Report, Fail, Crash, Par}
@@ -24,11 +23,10 @@ use Rattle.schema_lang.specs.Spelling.{IsSpellable, FitsRule, FitsObject}
 use Rattle.schema_lang.specs.Grammar as grammar
 use Rattle.script_lang.specs.declared.fault.DocumentFault.{DocumentFault}
 use Rattle.script_lang.specs.declared.fault.DocumentFault.TheVariants.{Bad, OutOfMemory}
-use Rattle.script_lang.specs.Scripts.{Fault, script_of}
+use Rattle.script_lang.specs.Scripts.{script_of}
 use Rattle.script_lang.specs.TypeNumbers.{CommandNames}
 use Rattle.script_lang.specs.Documents.{IsLineTold, TellsPart, Spells}
-use Rattle.script_runner.specs.declared.document.Document.{Document}
-use Rattle.script_runner.specs.Documents.{HasPart, IsDocument, IsThere, IsFault, TooLong, InPart, InCheck, InScript, IsToldFault, broken_line, broken_text, broken_fault}
+use Rattle.script_runner.specs.Documents.{HasPart, IsThere, IsFault, TooLong, InPart, InCheck, InScript, IsToldFault, broken_line, broken_text}
 use Rattle.script_runner.specs.Names.{HasNames, IsNumberedCommand}
 
 -- a schema that a text can spell is one that rules can be made of

@@ -1,6 +1,6 @@
 -- What the fields of a store say, said of its world.
-use Rattle.std.proofs.Common.{◌≡◌, ℕ, ◌+◌, ◌≤◌, Bool, true, Option, Some, None, List, [], ◌∷◌, ◌++◌, length, refl, sym, ap, subst, ◌∙◌, arith, max, min, length-append}
-use Rattle.std.specs.Prelude.{Result, Ok, Err, IfErr, IfSome, slice_get}
+use Rattle.std.proofs.Common.{◌≡◌, ℕ, ◌≤◌, true, Option, Some, None, List, [], ◌∷◌, ◌++◌, length, refl, sym, ap, subst, ◌∙◌, arith, length-append}
+use Rattle.std.specs.Prelude.{Result, IfErr, IfSome, slice_get}
 use Rattle.std.specs.List.{AllByRecursion}
 use Rattle.delf_model.specs.declared.call.Call.{Call}
 use Rattle.delf_model.specs.declared.call.Refusal.{Refusal}
@@ -14,14 +14,13 @@ use Rattle.delf_model.specs.Graph.{Graph, has_id, object_at}
 use Rattle.delf_model.specs.Report.{listed_from, listed_at}
 use Rattle.delf_model.specs.State.{State, after}
 use Rattle.delf_model.specs.Legal.{Legal, is_legal, greatest_moment, reply}
-use Rattle.delf_model.specs.Order.{first_step, is_step, is_legal_step}
+use Rattle.delf_model.specs.Order.{first_step, is_step}
 use Rattle.delf_model.specs.Sound.{FirstIsLegal}
 use Rattle.delf_model.proofs.Runs.{Legal_push}
 use Rattle.delf_model.proofs.Good.{good_after}
 use Rattle.std.proofs.lemmas.Bool.{and_parts}
 use Rattle.script_runner.specs.Worlds.{World, KeepsWorld, state_of, now_of, with_entry}
 use Rattle.script_runner.specs.Names.{IsNumberedObject, IsNumberedEdge, IsNumberedListed, IsNumberedRefusal}
-use Rattle.script_runner.specs.Serial.{answer, next_step}
 use Rattle.script_runner.proofs.Counts.{objects_few, edges_few}
 use Rattle.script_runner.proofs.Numbered.{all_found, all_at, rules_after, objects_numbered, edges_numbered, listed_numbered, numbered_after}
 use Rattle.script_runner.proofs.Refusals.{reply_numbered}

@@ -1,6 +1,6 @@
 -- The type of a wrong end that a refusal tells is one of the rules.
-use Rattle.std.proofs.Common.{◌≡◌, ℕ, Bool, true, false, cond, Option, Some, None, List, [], ◌∷◌, length, refl, ap, subst}
-use Rattle.std.specs.Prelude.{Result, Ok, Err, IfErr, is_some, slice_get, nat_eq, nat_lt}
+use Rattle.std.proofs.Common.{◌≡◌, ℕ, Bool, true, false, cond, Option, Some, None, List, [], ◌∷◌, length, refl}
+use Rattle.std.specs.Prelude.{IfErr, is_some, slice_get, nat_eq, nat_lt}
 use Rattle.std.specs.List.{AllByRecursion}
 use Rattle.delf_model.specs.declared.rows.ObjectRow.{ObjectRow}
 use Rattle.delf_model.specs.declared.rows.EdgeRow.{EdgeRow}
@@ -8,13 +8,12 @@ use Rattle.delf_model.specs.declared.schema.EdgeShape.{EdgeShape}
 use Rattle.delf_model.specs.declared.schema.ObjectRule.{ObjectRule}
 use Rattle.delf_model.specs.declared.call.Call.{Call}
 use Rattle.delf_model.specs.declared.call.Refusal.{Refusal}
-use Rattle.delf_model.specs.declared.call.Refusal.TheVariants.{TooLong, Absent, Condemned, WrongEnd, NameTaken, EdgeTaken, NoEdge, NotDirect, JobTaken, NoJob, Pending, RestoredBefore, WindowOver, Full}
+use Rattle.delf_model.specs.declared.call.Refusal.TheVariants.{TooLong, Absent, WrongEnd, NoEdge, NotDirect, JobTaken, NoJob, Pending, WindowOver, Full}
 use Rattle.delf_model.specs.declared.entry.What.{What}
 use Rattle.delf_model.specs.declared.entry.What.TheVariants.{Create, Update, Link, Unlink, Delete, Restore, Expire, Cut, Erase, Put, Purge}
-use Rattle.delf_model.specs.RuleSet.{RuleSet}
 use Rattle.delf_model.specs.Graph.{has_id, object_at, edge_at, edge_stands}
-use Rattle.delf_model.specs.State.{State, JobRow, owner, owned, find_job, job_row, unlink_start, key_of}
-use Rattle.delf_model.specs.Legal.{refusals, refused, first_refusal, answered, answered_by, asked, reply, next_tag, payload_limit, too_long, absent, condemned, condemned_by, kind_differs, wrong_source, wrong_target, name_taken, name_taken_by, edge_taken, edge_taken_by, no_edge, not_direct, not_direct_row, not_direct_rule, is_direct, job_taken, job_taken_if, no_job, pending, restored_before, restored_by, window_over, window_end, full}
+use Rattle.delf_model.specs.State.{State, JobRow, owner, owned, job_row, unlink_start, key_of}
+use Rattle.delf_model.specs.Legal.{refusals, refused, first_refusal, answered, answered_by, asked, reply, next_tag, payload_limit, too_long, absent, condemned, condemned_by, kind_differs, wrong_source, wrong_target, name_taken_by, edge_taken_by, not_direct_row, not_direct_rule, is_direct, job_taken, restored_before, restored_by, window_over, window_end, full}
 use Rattle.script_runner.specs.Names.{IsNumberedObject, IsNumberedRefusal}
 use Rattle.script_runner.proofs.Numbered.{all_found}
 

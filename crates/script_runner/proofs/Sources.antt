@@ -1,7 +1,6 @@
 -- Bytes that were read, and the document that the source had left.
 use Rattle.std.proofs.Common.{◌≡◌, ℕ, ◌≤◌, ◌<◌, Bool, IsTrue, List, [], ◌++◌, length, refl, sym, ap, subst, ◌∙◌, inl, inr, arith, length-append, append-nil}
 use Rattle.std.specs.List.{All}
-use Rattle.delf_io.specs.Faults.{next_count}
 use Rattle.script_lang.specs.declared.fault.DocumentFault.{DocumentFault}
 use Rattle.script_lang.specs.declared.fault.DocumentFault.TheVariants as told
 use Rattle.script_lang.specs.Scripts.{Fault}

@@ -1,22 +1,20 @@
 -- An entry that started a job is told by the job that its name means afterwards.
-use Rattle.std.proofs.Common.{◌≡◌, ℕ, suc, ◌+◌, ◌≤◌, ◌<◌, Bool, true, false, cond, not, ◌&&◌, eqb, Option, Some, None, List, [], ◌∷◌, ◌++◌, length, refl, sym, ap, subst, ◌∙◌, arith}
+use Rattle.std.proofs.Common.{◌≡◌, ℕ, ◌<◌, Bool, true, false, cond, not, ◌&&◌, eqb, Option, Some, None, List, [], ◌∷◌, ◌++◌, length, refl, sym, ap, subst, ◌∙◌, arith}
 use Rattle.std.proofs.lemmas.Bool.{eq-eqb}
 use Rattle.std.proofs.lemmas.Bool.Decides.{nat_tests}
-use Rattle.std.specs.Prelude.{Result, Ok, Err, is_some, nat_eq, find}
+use Rattle.std.specs.Prelude.{Ok, is_some}
 use Rattle.delf_model.specs.declared.ids.JobName.{JobName}
-use Rattle.delf_model.specs.declared.ids.JobName.TheVariants.{Named, Expiry}
+use Rattle.delf_model.specs.declared.ids.JobName.TheVariants.{Named}
 use Rattle.delf_model.specs.declared.call.Call.{Call}
 use Rattle.delf_model.specs.declared.call.Call.TheVariants as call
 use Rattle.delf_model.specs.declared.call.Refusal.{Refusal}
 use Rattle.delf_model.specs.declared.entry.Entry.{Entry}
-use Rattle.delf_model.specs.declared.entry.Tag.{Tag}
 use Rattle.delf_model.specs.declared.entry.What.{What}
-use Rattle.delf_model.specs.declared.entry.What.TheVariants.{Create, Update, Link, Unlink, Delete, Restore}
-use Rattle.delf_model.specs.RuleSet.{RuleSet, is_refcount}
-use Rattle.delf_model.specs.Graph.{Change, TakesEdge, changed, has_refs}
-use Rattle.delf_model.specs.State.{State, JobRow, after, step, find_job, job_row, starts_at, last_of, named_start, same_name, started_job, unlink_start, is_job, key_of}
-use Rattle.delf_model.specs.Legal.{Legal, reply, refused, answered, answered_by, restore_of, next_tag}
-use Rattle.delf_model.specs.Report.{items_of}
+use Rattle.delf_model.specs.declared.entry.What.TheVariants.{Unlink, Restore}
+use Rattle.delf_model.specs.RuleSet.{is_refcount}
+use Rattle.delf_model.specs.Graph.{TakesEdge, changed, has_refs}
+use Rattle.delf_model.specs.State.{State, JobRow, step, find_job, job_row, last_of, named_start, same_name, started_job, is_job, key_of}
+use Rattle.delf_model.specs.Legal.{Legal, refused, answered, answered_by, restore_of, next_tag}
 use Rattle.delf_model.proofs.Runs.{after_push}
 use Rattle.delf_model.proofs.Good.{good_after}
 use Rattle.delf_book.proofs.Entering.{len_after}

@@ -1,12 +1,12 @@
 -- The steps that a work makes, one by one.
-use Rattle.std.proofs.Common.{◌≡◌, ℕ, zero, suc, ◌+◌, ◌-◌, ◌≤◌, ◌<◌, Bool, true, false, cond, ltb, Option, Some, None, List, [], ◌∷◌, ◌++◌, length, refl, sym, ap, subst, ◌∙◌, arith, length-append}
+use Rattle.std.proofs.Common.{◌≡◌, ℕ, suc, ◌+◌, ◌-◌, ◌<◌, Bool, true, false, cond, ltb, Option, Some, None, List, [], ◌∷◌, length, refl, sym, ap, ◌∙◌, arith, length-append}
 use Rattle.std.proofs.lemmas.Bool.{lt-ltb}
 use Rattle.std.proofs.lemmas.Bool.Decides.{nat_tests}
 use Rattle.std.specs.Prelude.{Result, Ok, Err, OnOk, is_some}
 use Rattle.delf_model.specs.declared.entry.What.{What}
 use Rattle.job_report.specs.declared.work.WorkEnd.TheVariants.{All, Idle}
 use Rattle.job_report.specs.Texts.{work_text}
-use Rattle.script_runner.specs.Worlds.{World, with_entry, now_of}
+use Rattle.script_runner.specs.Worlds.{World, now_of}
 use Rattle.script_runner.specs.Serial.{next_step, after_step, world_worked, steps_made, work_line}
 use Rattle.script_runner.proofs.Loops.{worked_idle, worked_none, worked_more}
 

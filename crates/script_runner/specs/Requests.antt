@@ -1,5 +1,5 @@
 -- Which words are a command of the program, and at which moment it starts.
-use Rattle.std.specs.Prelude.{◌≡◌, ℕ, ◌&&◌, Option, Some, None, Result, Ok, Err, List, [], ◌∷◌, take, drop, if◌then◌else◌, codes}
+use Rattle.std.specs.Prelude.{ℕ, ◌&&◌, Option, Some, None, Result, Ok, Err, List, [], ◌∷◌, take, drop, if◌then◌else◌, codes}
 use Rattle.std.specs.Str.{bytes_eq}
 use Rattle.schema_lang.specs.declared.why.Why.{Why}
 use Rattle.schema_lang.specs.Numbers.{number_in}

@@ -18,7 +18,7 @@ use Rattle.delf_model.specs.declared.entry.What.TheVariants as what
 use Rattle.delf_model.specs.declared.script.Command.{Command}
 use Rattle.delf_model.specs.declared.script.Command.TheVariants.{Submit, Work, Tick, Get, Show, Job, Jobs, Report, Fail, Crash, Par}
 use Rattle.delf_model.specs.Graph.{object_at}
-use Rattle.delf_model.specs.State.{State, JobRow, owner, find_job, job_row, root_of_start, start_of, unlink_start}
+use Rattle.delf_model.specs.State.{State, JobRow, owner, find_job, job_row, unlink_start}
 use Rattle.delf_model.specs.Legal.{reply}
 use Rattle.delf_model.specs.Order.{first_step}
 use Rattle.delf_model.specs.Report.{items_of, job_line, listed_from}

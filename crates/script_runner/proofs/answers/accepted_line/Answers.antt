@@ -1,11 +1,4 @@
-use Rattle.std.proofs.Common.{◌≡◌, ℕ, List, [], Option, Ok, length, sym, ap, subst, ◌∙◌}
 use Rattle.std.proofs.lemmas.Result.{IfOk-weaker}
-use Rattle.delf_model.specs.declared.call.Call.{Call}
-use Rattle.delf_model.specs.declared.call.Call.TheVariants.{Unlink, Restore}
-use Rattle.delf_model.specs.Legal.{Legal}
-use Rattle.job_report.specs.Texts.{unlinked_text, restoring_text}
-use Rattle.script_runner.specs.Worlds.{World, state_of, with_entry}
-use Rattle.script_runner.specs.Serial.{answer, accepted_text, payload_of, edge_name, started_name, restored_items}
 use Rattle.script_runner.proofs.Starts.{unlink_text, restore_text}
 use Rattle.script_runner.proofs.answers.accepted_line.Goals as goal
 

@@ -1,4 +1,4 @@
-use Rattle.std.proofs.Common.{refl, arith}
+use Rattle.std.proofs.Common.{arith}
 use Rattle.schema_lang.specs.Views.{part_view}
 use Rattle.script_runner.specs.Documents.{HasPart}
 use Rattle.script_runner.proofs.Documents.{told_part, told_check, told_script}

@@ -1,4 +1,4 @@
-use Rattle.std.proofs.Common.{List, length, sym, ap, ◌∙◌, flat_map, arith}
+use Rattle.std.proofs.Common.{List, sym, ap, ◌∙◌, flat_map, arith}
 use Rattle.delf_model.specs.declared.call.Listed.{Listed}
 use Rattle.delf_model.specs.Report.{listed_from}
 use Rattle.script_runner.specs.Worlds.{state_of}

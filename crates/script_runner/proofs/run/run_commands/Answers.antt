@@ -1,8 +1,5 @@
-use Rattle.std.proofs.Common.{ℕ, ◌++◌, List, length, take, sym, ap, refl, ◌∙◌, arith, append-nil}
-use Rattle.delf_model.specs.declared.script.Command.{Command}
-use Rattle.delf_model.specs.RuleSet.{RuleSet}
+use Rattle.std.proofs.Common.{ℕ, ◌++◌, List, sym, ap, refl, ◌∙◌, arith, append-nil}
 use Rattle.script_runner.specs.Worlds.{World}
-use Rattle.script_runner.specs.Serial.{text_of, world_after}
 use Rattle.script_runner.proofs.Loops.{take_past}
 use Rattle.script_runner.proofs.Scripts.{text_of-none, world_after-none, text_more, world_more, rules_stay, whole_text, names_here, numbered_here, served_here}
 use Rattle.script_runner.proofs.run.run_commands.Goals as goal

@@ -1,4 +1,4 @@
-use Rattle.std.proofs.Common.{◌≡◌, ◌++◌, IsTrue, length, take}
+use Rattle.std.proofs.Common.{◌≡◌, ◌++◌, IsTrue, take}
 use Rattle.script_runner.specs.Serial.{text_of, world_after}
 use Rattle.script_runner.proofs.run.run_commands.Given as goal
 

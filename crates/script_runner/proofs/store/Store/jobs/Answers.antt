@@ -1,6 +1,6 @@
-use Rattle.std.proofs.Common.{refl, ap, ◌∙◌, ◌≤◌, length, arith}
+use Rattle.std.proofs.Common.{refl, arith}
 use Rattle.delf_model.specs.Report.{job_at}
-use Rattle.script_runner.specs.Worlds.{World, state_of}
+use Rattle.script_runner.specs.Worlds.{state_of}
 use Rattle.script_runner.proofs.Counts.{jobs_within}
 use Rattle.script_runner.proofs.Loops.{lines_next, lines_all}
 use Rattle.script_runner.proofs.store.Store.jobs.Goals as goal

@@ -1,6 +1,6 @@
-use Rattle.std.proofs.Common.{◌≡◌, ℕ, length, refl, sym, ap, ◌∙◌, arith}
+use Rattle.std.proofs.Common.{refl, sym, ap, ◌∙◌, arith}
 use Rattle.delf_model.specs.declared.call.JobLine.{JobLine}
-use Rattle.delf_model.specs.State.{State, after}
+use Rattle.delf_model.specs.State.{State}
 use Rattle.delf_model.specs.Report.{job_at}
 use Rattle.std.specs.Prelude.{slice_get}
 use Rattle.script_runner.specs.Worlds.{World, state_of}
