@@ -3,7 +3,7 @@ ghost use Rattle.delf_model.specs.Graph.{edge_at, object_at};
 ghost use Rattle.delf_model.specs.State.{edge_item, object_item, birth_of};
 ghost use Rattle.delete_step.specs.Logging.{logged_by, first_item};
 
-use delf_model::{EdgeKey, GraphStore, Item, Job, ObjectId, What};
+use delf_model::{EdgeKey, EdgeRow, GraphStore, Item, Job, ObjectId, What};
 
 /// The item that a Cut or Erase logs: the row that it erases, and of an edge the births of both ends. None exactly
 /// where the step is another, or the row is not in the graph. Takes no memory.
@@ -48,12 +48,18 @@ fn item_of_edge<G: GraphStore>(graph: &G, job: Job, key: EdgeKey) -> Option<Item
     ensures { result ≡ first_item (edge_item (G.graph graph.now) job (edge_at (G.graph graph.now) key)) }
 {
     let row = graph.edge(key)?;
-    Some(Item::Edge {
+    Some(cut_item(graph, job, &row))
+}
+
+fn cut_item<G: GraphStore>(graph: &G, job: Job, row: &EdgeRow) -> Item
+    ensures { Some result ≡ first_item (edge_item (G.graph graph.now) job (Some row.now)) }
+{
+    Item::Edge {
         job,
-        row,
+        row: *row,
         from_birth: birth(graph, row.key.from),
         to_birth: birth(graph, row.key.to),
-    })
+    }
 }
 
 fn birth<G: GraphStore>(graph: &G, id: ObjectId) -> u32
