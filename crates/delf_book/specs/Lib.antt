@@ -1,4 +1,6 @@
+pub mod Books
 pub mod Edits
+pub mod Keeping
 pub mod Keeps
 pub mod Ledgers
 pub mod Parts

@@ -1,0 +1,58 @@
+-- What a book keeps of its logs and its disk while it is up.
+use Rattle.std.specs.Prelude.{◌≡◌, ℕ, zero, suc, ◌+◌, ◌≤◌, true, cond, List, [], ◌∷◌, Some, length, map, slice_get}
+use Rattle.delf_disk.specs.declared.area.Area.TheVariants as area
+use Rattle.delf_disk.specs.Areas.{Areas}
+use Rattle.gate_log.specs.Records.{Record}
+use Rattle.gate_log.specs.View.{LogView}
+use Rattle.entry_codec.specs.EntryHead.{entry_head}
+use Rattle.entry_codec.specs.ItemHead.{item_fields}
+use Rattle.entry_codec.specs.Field.{spelled}
+use Rattle.delf_model.specs.declared.entry.Entry.{Entry}
+use Rattle.delf_model.specs.RuleSet.{RuleSet}
+use Rattle.delf_model.specs.State.{State, Logged, start, step, after, size_of}
+use Rattle.delf_model.specs.Payloads.{Payloads, is_needed, last_carrier, Journal}
+use Rattle.payload_laws.specs.Holders.{record_size}
+use Rattle.store_laws.specs.Stores.{Clean, payload_in, seals_of, journal_of, vault_of}
+use Rattle.store_laws.specs.Moves.{RestIn}
+
+-- the lengths of the heads and payloads of the journal records of a history
+abbrev pub journal_sizes : State → List Entry → List (ℕ × ℕ)
+journal_sizes s [] = []
+journal_sizes s (e ∷ es) = (length (entry_head e), record_size s e.what) ∷ journal_sizes (step s e) es
+
+-- of the vault record of an item, whose head ends with a digest of 32 bytes
+abbrev pub item_sizes : Logged → ℕ × ℕ
+item_sizes logged = (length (spelled (item_fields logged.item)) + 32, size_of logged.item)
+
+-- the logs are those of the history, whatever the disk tells
+pub record KeepsLogs (rules : RuleSet) (history : List Entry) (spare : ℕ) (journal vault : LogView) : Type 0 where
+  pub journal_area : journal.area ≡ area.Journal
+  pub vault_area : vault.area ≡ area.Vault
+  pub journal_is : journal.sizes ≡ journal_sizes (start rules) history
+  pub vault_is : vault.sizes ≡ map item_sizes (after rules history).items
+  pub journal_spare : spare ≤ journal.spare
+  pub vault_spare : spare ≤ vault.spare
+
+-- by position, the journal record that carries the payload of a row of the graph
+pub record KeepsCarriers (rules : RuleSet) (history : List Entry) (carriers : List ℕ) : Type 0 where
+  pub many : length carriers ≡ length history
+  pub carried : (p q : ℕ) → is_needed (after rules history) p ≡ true → last_carrier (after rules history) p ≡ Journal q
+      → slice_get carriers p ≡ Some q
+
+-- the payloads that the records of a state hold, at the needed positions below a number
+
+abbrev pub needed_pairs : State → List Record → List Record → ℕ → List (ℕ × List ℕ)
+needed_pairs s journal vault zero = []
+needed_pairs s journal vault (suc n) =
+    cond (is_needed s n) ((n, payload_in journal vault (last_carrier s n)) ∷ needed_pairs s journal vault n) (needed_pairs s journal vault n)
+
+unfoldable pub payloads_in : State → Areas → Payloads
+payloads_in s areas = record {
+  bytes = needed_pairs s (journal_of areas) (vault_of areas) s.len;
+  seals = seals_of (vault_of areas);
+}
+
+-- each image rests and holds what reads, and no payload reads that is not needed
+pub record KeepsAreas (rules : RuleSet) (history : List Entry) (seen : Areas) (may_leave : Areas → Type 0) : Type 0 where
+  pub rests : RestIn rules history (payloads_in (after rules history) seen) may_leave
+  pub clean : Clean rules history seen
