@@ -1,3 +1,4 @@
 pub mod Logged
 pub mod Stores
 pub mod Moves
+pub mod Steps

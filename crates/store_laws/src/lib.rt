@@ -2,7 +2,9 @@
 //! contract of a function that does nothing.
 #![tactic(auto)]
 
-ghost use Rattle.std.specs.Prelude.{◌≡◌, ◌×◌, ℕ, true, List, [], ◌∷◌, ◌++◌, length};
+pub mod areas;
+
+ghost use Rattle.std.specs.Prelude.{◌≡◌, ℕ, true, List, [], ◌∷◌, ◌++◌, length};
 ghost use Rattle.gate_log.specs.Records.{Record, payload_of, replaced};
 ghost use Rattle.gate_log.specs.Logs.{Log};
 ghost use Rattle.delf_model.specs.declared.entry.Entry.{Entry};

@@ -1,0 +1,9 @@
+pub mod Spelled
+pub mod Places
+pub mod Items
+pub mod Needs
+pub mod Carry
+pub mod Dead
+pub mod Appends
+pub mod Scrubs
+pub mod Sealed

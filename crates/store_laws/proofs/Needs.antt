@@ -1,0 +1,78 @@
+-- Needed positions: their carriers stand, and a row that is taken was needed.
+use Rattle.std.proofs.Common.{◌≡◌, ℕ, ◌+◌, ◌<◌, Bool, true, false, ◌&&◌, ◌||◌, not, eqb, List, [], ◌∷◌, length, Option, Some, None, refl, sym, ap, ◌∙◌, subst, arith, inl, inr}
+use Rattle.std.proofs.lemmas.Bool.{and_parts, eq-eqb, or_left, or_right, cases_Bool, false≢true}
+use Rattle.std.proofs.lemmas.Option.{slice_get_within, same_Some}
+use Rattle.std.specs.Prelude.{is_some}
+use Rattle.std.specs.List.{list_any}
+use Rattle.delf_model.specs.declared.rows.ObjectRow.{ObjectRow}
+use Rattle.delf_model.specs.declared.rows.EdgeRow.{EdgeRow}
+use Rattle.delf_model.specs.declared.entry.Entry.{Entry}
+use Rattle.delf_model.specs.declared.entry.What.{What}
+use Rattle.delf_model.specs.declared.entry.What.TheVariants.{Create, Update, Link, Unlink, Delete, Restore, Expire, Cut, Erase, Put, Purge}
+use Rattle.delf_model.specs.RuleSet.{RuleSet}
+use Rattle.delf_model.specs.Graph.{has_id, has_key, object_at, edge_at, edge_stands, is_touched}
+use Rattle.delf_model.specs.State.{State, Logged, after, key_of, is_owned_by}
+use Rattle.delf_model.specs.Legal.{Legal, is_allowed}
+use Rattle.delf_model.specs.Report.{was_put}
+use Rattle.delf_model.specs.Payloads.{is_needed, object_needs, edge_needs, item_needs, Carrier, Journal, Vault, last_carrier, position_of_object, position_of_edge, is_at}
+use Rattle.delf_model.proofs.Leaves.{owner_is}
+use Rattle.delf_model.proofs.Owners.{OwnedStand}
+use Rattle.payload_laws.specs.Holders.{position_taken, PositionsHeld}
+use Rattle.payload_laws.proofs.Members.{found_in, in_any, In}
+use Rattle.payload_laws.proofs.Carriers.{held_or_not, carrier_unheld, carrier_held, unput_vault, put_by, put_journal, HeldLast, PutBy}
+use Rattle.payload_laws.proofs.Placed.{Placed, placed_after, sources_in, sizes_in}
+
+-- a carrier that stands among the records of a state
+abbrev pub Inside : State → Carrier → Type 0
+Inside s (Journal q) = q < s.len
+Inside s (Vault i) = i < length s.items
+
+-- the carrier of each needed position does
+pub needed_inside : (rules : RuleSet) (h : List Entry) → Legal rules h → PositionsHeld (after rules h) → (p : ℕ) → is_needed (after rules h) p ≡ true → Inside (after rules h) (last_carrier (after rules h) p)
+needed_inside rules h legal held p needed =
+    elim (held_or_not p s.items) [
+      | inl none ↦ subst (Inside s) (sym (carrier_unheld s p none)) (held.below p needed)
+      | inr last ↦
+          elim (cases_Bool (was_put last.1.logged.handled)) [
+            | inl put ↦
+                let by = put_by last.1.logged.handled put in
+                subst (Inside s) (sym (carrier_held s p last.0 last.1 ∙ put_journal last.0 last.1.logged.handled by)) (below last.0 last.1 by)
+            | inr waits ↦
+                subst (Inside s) (sym (carrier_held s p last.0 last.1 ∙ unput_vault last.0 last.1.logged.handled waits)) (slice_get_within s.items last.0 last.1.logged last.1.there)
+          ]
+    ]
+  where
+    s : State
+    s = after rules h
+
+    below : (i : ℕ) (last : HeldLast p (after rules h).items i) (by : PutBy last.logged.handled) → by.how.put < (after rules h).len
+    below i last by = ((placed_after rules h legal).puts i last.logged by.how last.there by.is by.back).below
+
+-- a row that is taken
+
+pub row_needed : (s : State) (p : ℕ) (row : ObjectRow) → In s.graph.objects row → row.at ≡ p → is_needed s p ≡ true
+row_needed s p row here at =
+    or_left (list_any (object_needs p) s.graph.objects || list_any (edge_needs p) s.graph.edges) (list_any (item_needs s.jobs p) s.items)
+    (or_left (list_any (object_needs p) s.graph.objects) (list_any (edge_needs p) s.graph.edges) (in_any (object_needs p) s.graph.objects row here (eq-eqb row.at p at)))
+
+pub edge_needed : (s : State) (p : ℕ) (row : EdgeRow) → In s.graph.edges row → row.birth ≡ p → is_needed s p ≡ true
+edge_needed s p row here at =
+    or_left (list_any (object_needs p) s.graph.objects || list_any (edge_needs p) s.graph.edges) (list_any (item_needs s.jobs p) s.items)
+    (or_right (list_any (object_needs p) s.graph.objects) (list_any (edge_needs p) s.graph.edges) (in_any (edge_needs p) s.graph.edges row here (eq-eqb row.birth p at)))
+
+edge_found : (s : State) (edge from to : ℕ) (o : Option EdgeRow) → edge_at s.graph (key_of edge from to) ≡ o → is_some o ≡ true → is_needed s (position_of_edge o) ≡ true
+edge_found s edge from to None at some = absurd (false≢true some)
+edge_found s edge from to (Some row) at some = edge_needed s row.birth row (found_in (has_key (key_of edge from to)) s.graph.edges row at) refl
+
+object_found : (s : State) (id : ℕ) (o : Option ObjectRow) → object_at s.graph id ≡ o → is_some o ≡ true → is_needed s (position_of_object o) ≡ true
+object_found s id None at some = absurd (false≢true some)
+object_found s id (Some row) at some = row_needed s row.at row (found_in (has_id id) s.graph.objects row at) refl
+
+pub taken_needed : (s : State) (moment : ℕ) (w : What) → OwnedStand s → is_allowed s moment w ≡ true → (p : ℕ) → position_taken s w ≡ Some p → is_needed s p ≡ true
+taken_needed s moment (Cut job edge from to) owned line p taken =
+    subst (λ (n : ℕ). is_needed s n ≡ true) (same_Some _ _ taken)
+    (edge_found s edge from to (edge_at s.graph (key_of edge from to)) refl (and_parts (edge_stands s.graph (key_of edge from to)) (is_owned_by s job from || is_owned_by s job to) line).0)
+taken_needed s moment (Erase job id) owned line p taken =
+    subst (λ (n : ℕ). is_needed s n ≡ true) (same_Some _ _ taken)
+    (object_found s id (object_at s.graph id) refl (owned id job (owner_is s job id (and_parts (is_owned_by s job id) (not (is_touched s.graph id)) line).0)))
+taken_needed s moment w owned line p taken = absurd (cc taken)
