@@ -4,3 +4,4 @@ pub mod Keeping
 pub mod Keeps
 pub mod Ledgers
 pub mod Parts
+pub mod Writing

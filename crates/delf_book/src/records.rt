@@ -1,0 +1,60 @@
+//! The records of one entry, and the scrubs behind it.
+ghost use Rattle.std.specs.Prelude.{◌≡◌, ◌+◌, ◌≤◌, ◌<◌, [], ◌∷◌, ◌++◌, ℕ, List, length, OnOk, OnErr};
+ghost use Rattle.delf_disk.specs.declared.area.Area.TheVariants.{Journal as JournalArea};
+ghost use Rattle.delf_disk.specs.Images.{Only};
+ghost use Rattle.delf_disk.specs.Causes.{HasCause};
+ghost use Rattle.delf_disk.specs.Plain.{Plain, SameKind};
+ghost use Rattle.delf_disk.specs.Moments.{Leaves};
+ghost use Rattle.gate_log.specs.Records.{Record};
+ghost use Rattle.gate_log.specs.Logs.{StandIn};
+ghost use Rattle.gate_log.specs.Steps.{Adds};
+ghost use Rattle.entry_codec.specs.EntryHead.{entry_head, IsBounded};
+ghost use Rattle.delf_model.specs.declared.entry.Entry.{Entry};
+ghost use Rattle.delf_model.specs.RuleSet.{RuleSet};
+ghost use Rattle.delf_model.specs.Legal.{greatest_moment, payload_limit};
+ghost use Rattle.delf_model.specs.Payloads.{Payloads};
+ghost use Rattle.store_laws.specs.Moves.{RestIn, StandsFor};
+ghost use Rattle.delf_book.specs.Writing.{Writes, longer, next_payloads};
+
+use delf_disk::{Disk, Failed};
+use delf_model::Entry;
+use entry_codec::write_entry;
+use gate_log::GateLog;
+
+/// Adds the journal record of an entry that may come next. A crash leaves the history, or it with the entry.
+pub(crate) fn write_record<D: Disk>(
+    journal: &mut GateLog,
+    disk: &mut D,
+    entry: &Entry,
+    payload: &[u8],
+) -> Result<(), Failed>
+    requires area { journal.old.area ≡ JournalArea }
+    requires spare { 0 < journal.old.spare }
+    requires moment { entry.now.moment ≤ greatest_moment }
+    requires bounded { IsBounded entry.now.what }
+    requires payload { length payload.now ≤ payload_limit }
+    requires stands { Plain (D.told disk.old) (D.honest disk.old) → StandIn journal.old.area journal.old.sizes (D.may_leave disk.old) }
+
+    ensures area { journal.new.area ≡ journal.old.area }
+    ensures sizes { OnOk result (journal.new.sizes ≡ journal.old.sizes ++ (length (entry_head entry.now), length payload.now) ∷ []) }
+    ensures sizes_err { OnErr result (journal.new.sizes ≡ journal.old.sizes) }
+    ensures spare { journal.old.spare ≤ journal.new.spare + 1 }
+
+    ensures crash { Plain (D.told disk.old) (D.honest disk.old) → (rules : RuleSet) (history : List Entry) (e : Payloads) (given : List ℕ) (added : List Record)
+        → Writes rules history e entry.now given added payload.now (D.may_leave disk.old)
+        → Leaves D.moment D.may_leave D.left_since (StandsFor rules history e entry.now given) disk.old disk.new }
+    ensures done { OnOk result (Plain (D.told disk.old) (D.honest disk.old) → (rules : RuleSet) (history : List Entry) (e : Payloads) (given : List ℕ) (added : List Record)
+        → Writes rules history e entry.now given added payload.now (D.may_leave disk.old)
+        → RestIn rules (longer history entry.now) (next_payloads rules history e entry.now given) (D.may_leave disk.new)) }
+    ensures added { OnOk result (Plain (D.told disk.old) (D.honest disk.old)
+        → Adds JournalArea journal.old.sizes (entry_head entry.now) payload.now (D.seen disk.old) (D.seen disk.new)) }
+    ensures stands { OnOk result (Plain (D.told disk.old) (D.honest disk.old)
+        → StandIn journal.new.area journal.new.sizes (D.may_leave disk.new)) }
+
+    ensures kind { SameKind D.told D.honest D.order D.orders disk.old disk.new }
+    ensures cause { HasCause (D.faults disk.old) (D.faults disk.new) result }
+{
+    let mut head = [0; 128];
+    let len = write_entry(entry, &mut head);
+    journal.append(disk, &head[..len as usize], payload)
+}
