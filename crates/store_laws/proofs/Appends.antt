@@ -1,6 +1,6 @@
 -- What an append to either log makes of the areas.
-use Rattle.std.proofs.Common.{◌≡◌, ℕ, ◌+◌, ◌≤◌, true, List, [], ◌∷◌, ◌++◌, length, take, drop, Option, Some, None, refl, sym, ap, ◌∙◌, subst, arith, inl, inr, ◌⊎◌, length-append, append-nil}
-use Rattle.std.proofs.lemmas.List.{length-map, take_all, take_at}
+use Rattle.std.proofs.Common.{◌≡◌, ℕ, ◌+◌, ◌≤◌, true, List, [], ◌∷◌, ◌++◌, length, take, Some, None, refl, sym, ap, ◌∙◌, subst, arith, inl, inr, ◌⊎◌, length-append, append-nil}
+use Rattle.std.proofs.lemmas.List.{take_all, take_at}
 use Rattle.std.specs.Prelude.{map}
 use Rattle.delf_disk.specs.Areas.{Areas}
 use Rattle.delf_disk.specs.declared.area.Area.TheVariants as area
@@ -16,8 +16,8 @@ use Rattle.delf_model.specs.Payloads.{Payloads, payloads_after}
 use Rattle.delf_model.proofs.Runs.{Legal_push}
 use Rattle.payload_laws.specs.Holders.{position_taken}
 use Rattle.store_laws.specs.Logged.{held, IsLog}
-use Rattle.store_laws.specs.Stores.{digest, Hold, StandBut, Rest, journal_mark, vault_mark, journal_of, vault_of, vault_for, item_heads, seals_of, head_in, length_in, logged_size}
-use Rattle.store_laws.specs.Moves.{IsEntryRecord, AreItemRecords, StandsFor, new_items}
+use Rattle.store_laws.specs.Stores.{digest, Hold, StandBut, Rest, journal_mark, vault_mark, journal_of, vault_of, vault_for, item_heads, logged_size}
+use Rattle.store_laws.specs.Moves.{IsEntryRecord, AreItemRecords, StandsFor}
 use Rattle.store_laws.specs.Steps.{Ahead}
 use Rattle.store_laws.proofs.Spelled.{told_log, log_told}
 use Rattle.store_laws.proofs.Items.{new_none}
@@ -63,13 +63,15 @@ ahead_stand rules h e added c few legal ahead = record {
 }
 
 pub ahead_of : (rules : RuleSet) (h : List Entry) (e : Payloads) (c : Areas) → Rest rules h c → Hold rules h e (journal_of c) (vault_of c) → Ahead rules h e [] c × (vault_for rules h c ≡ vault_of c)
-ahead_of rules h e c rest hold =
-    (record {
-      journal = rest.journal;
-      vault = rest.vault;
-      more = sym (append-nil (vault_for rules h c) ∙ all);
-      hold = subst (λ (v : List Record). Hold rules h e (journal_of c) v) (sym all) hold;
-    }, all)
+ahead_of rules h e c rest hold = (
+  record {
+    journal = rest.journal;
+    vault = rest.vault;
+    more = sym (append-nil (vault_for rules h c) ∙ all);
+    hold = subst (λ (v : List Record). Hold rules h e (journal_of c) v) (sym all) hold;
+  },
+  all,
+)
   where
     long : length (vault_of c) ≡ length (after rules h).items
     long = vault_length rules h (journal_of c) (vault_of c) hold.spell
@@ -90,12 +92,14 @@ module _ (rules : RuleSet) (h : List Entry) (e : Payloads) (entry : Entry) (give
   next = payloads_after digest (after rules h) entry given e
 
   pub with_entry : Log journal_mark (journal_of c ++ r ∷ []) d.journal → Rest rules longer d × Hold rules longer next (journal_of d) (vault_of d)
-  with_entry log =
-      (record {
-        journal = told.0;
-        vault = subst (λ (v : List ℕ). IsLog vault_mark v) (sym vault_same) ahead.vault;
-        spell = hold.spell;
-      }, hold)
+  with_entry log = (
+    record {
+      journal = told.0;
+      vault = subst (λ (v : List ℕ). IsLog vault_mark v) (sym vault_same) ahead.vault;
+      spell = hold.spell;
+    },
+    hold,
+  )
     where
       told : IsLog journal_mark d.journal × (journal_of d ≡ journal_of c ++ r ∷ [])
       told = told_log journal_mark (journal_of c ++ r ∷ []) d.journal log
@@ -174,13 +178,16 @@ module _ (rules : RuleSet) (h : List Entry) (e : Payloads) (added : Record) (siz
     (legal : Legal rules h) (rest : Rest rules h c) (hold : Hold rules h e (journal_of c) (vault_of c)) (sized : map size_of (vault_of c) ≡ sizes) where
   with_record : d.journal ≡ c.journal → Log vault_mark (vault_of c ++ added ∷ []) d.vault →
       Ahead rules h e (added ∷ []) d × (journal_of d ≡ journal_of c) × (vault_for rules h d ≡ vault_of c)
-  with_record same log =
-      (record {
-        journal = subst (λ (j : List ℕ). IsLog journal_mark j) (sym same) rest.journal;
-        vault = told.0;
-        more = told.1 ∙ ap (λ (l : List Record). l ++ added ∷ []) (sym firsts);
-        hold = subst (λ (v : List Record). Hold rules h e (journal_of d) v) (sym firsts) (subst (λ (j : List Record). Hold rules h e j (vault_of c)) (sym (ap held same)) hold);
-      }, ap held same, firsts)
+  with_record same log = (
+    record {
+      journal = subst (λ (j : List ℕ). IsLog journal_mark j) (sym same) rest.journal;
+      vault = told.0;
+      more = told.1 ∙ ap (λ (l : List Record). l ++ added ∷ []) (sym firsts);
+      hold = subst (λ (v : List Record). Hold rules h e (journal_of d) v) (sym firsts) (subst (λ (j : List Record). Hold rules h e j (vault_of c)) (sym (ap held same)) hold);
+    },
+    ap held same,
+    firsts,
+  )
     where
       told : IsLog vault_mark d.vault × (vault_of d ≡ vault_of c ++ added ∷ [])
       told = told_log vault_mark (vault_of c ++ added ∷ []) d.vault log
@@ -194,7 +201,7 @@ module _ (rules : RuleSet) (h : List Entry) (e : Payloads) (added : Record) (siz
   without_record same log =
       let told = told_log vault_mark (vault_of c) d.vault log in
       let now : Hold rules h e (journal_of d) (vault_of d) =
-          subst (λ (v : List Record). Hold rules h e (journal_of d) v) (sym told.1) (subst (λ (j : List Record). Hold rules h e j (vault_of c)) (sym (ap held same)) hold) in
+      subst (λ (v : List Record). Hold rules h e (journal_of d) v) (sym told.1) (subst (λ (j : List Record). Hold rules h e j (vault_of c)) (sym (ap held same)) hold) in
       rest_stand rules h e d legal (record { journal = subst (λ (j : List ℕ). IsLog journal_mark j) (sym same) rest.journal; vault = told.0; spell = now.spell }) now
 
   pub vault_may : MayAdd area.Vault sizes added.head added.payload c d → StandBut rules h e d

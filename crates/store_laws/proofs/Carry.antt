@@ -1,24 +1,23 @@
 -- The records of one entry more hold the longer history and its payloads.
-use Rattle.std.proofs.Common.{◌≡◌, ℕ, zero, suc, ◌+◌, ◌<◌, Bool, true, false, cond, eqb, List, [], ◌∷◌, ◌++◌, length, take, Option, Some, None, refl, sym, ap, ◌∙◌, subst, arith, length-append}
+use Rattle.std.proofs.Common.{◌≡◌, ℕ, ◌+◌, ◌<◌, Bool, true, false, cond, eqb, List, [], ◌∷◌, ◌++◌, length, take, Option, Some, None, refl, sym, ap, ◌∙◌, subst, arith}
 use Rattle.std.proofs.lemmas.Bool.{eqb-true, eq-eqb, ne_eqb, cond-true, cond-false, false≢true}
-use Rattle.std.proofs.lemmas.List.{length-map, map-append, nil_from_length, append-nil}
+use Rattle.std.proofs.lemmas.List.{length-map, map-append, nil_from_length}
 use Rattle.std.proofs.lemmas.List.Folds.{find-append}
-use Rattle.std.proofs.lemmas.Option.{same_Some}
 use Rattle.std.specs.Prelude.{map, find, filter}
 use Rattle.std.specs.Option.{option_or}
 use Rattle.delf_model.specs.declared.entry.Entry.{Entry}
 use Rattle.delf_model.specs.declared.entry.What.{What}
 use Rattle.delf_model.specs.declared.entry.What.TheVariants.{Create, Update, Link, Unlink, Delete, Restore, Expire, Cut, Erase, Put, Purge}
 use Rattle.delf_model.specs.RuleSet.{RuleSet}
-use Rattle.delf_model.specs.State.{State, Logged, start, step, after, items_after, judged, position_of}
-use Rattle.delf_model.specs.Legal.{Legal, is_legal, is_allowed}
+use Rattle.delf_model.specs.State.{State, Logged, start, step, after, items_after}
+use Rattle.delf_model.specs.Legal.{Legal, is_legal}
 use Rattle.delf_model.specs.Payloads.{Payloads, is_needed, is_needed_pair, is_at, payload_at, bytes_of_pair, brought, sealed, payloads_after, Carrier, Journal, Vault, last_carrier}
 use Rattle.delf_model.proofs.Runs.{after_push}
 use Rattle.delf_model.proofs.Lines.{allowed_of}
 use Rattle.delf_model.proofs.Good.{good_after}
-use Rattle.gate_log.specs.Records.{Record, payload_of}
+use Rattle.gate_log.specs.Records.{Record}
 use Rattle.entry_codec.specs.EntryHead.{entry_head}
-use Rattle.payload_laws.specs.Holders.{record_size, brings, position_taken, Carried, Stays, Brought, Taken, PutBack, PayloadsMove, PositionsHeld}
+use Rattle.payload_laws.specs.Holders.{brings, position_taken, Carried, Stays, Brought, Taken, PutBack, PayloadsMove, PositionsHeld}
 use Rattle.payload_laws.proofs.Moves.{payloads_held}
 use Rattle.store_laws.specs.Stores.{digest, head_in, length_in, seal_in, seals_of, payload_in, record_sizes, item_heads, logged_size, Spell, Hold}
 use Rattle.store_laws.specs.Moves.{IsEntryRecord, AreItemRecords, new_items}

@@ -1,13 +1,12 @@
 -- Whatever stands in a payload that is not needed, the records hold the same.
-use Rattle.std.proofs.Common.{◌≡◌, ℕ, List, [], length, refl, sym, ap, ◌∙◌, subst}
-use Rattle.std.specs.Prelude.{map, true}
+use Rattle.std.proofs.Common.{◌≡◌, ℕ, List, [], length, refl, sym, ap, ◌∙◌}
 use Rattle.delf_model.specs.declared.entry.Entry.{Entry}
 use Rattle.delf_model.specs.RuleSet.{RuleSet}
 use Rattle.delf_model.specs.State.{after}
-use Rattle.delf_model.specs.Payloads.{Payloads, Carrier, Journal, Vault, is_needed, last_carrier, payload_at}
+use Rattle.delf_model.specs.Payloads.{Payloads, Carrier, Journal, Vault, last_carrier}
 use Rattle.gate_log.specs.Records.{Record, payload_of, replaced}
 use Rattle.payload_laws.specs.Holders.{IsLive}
-use Rattle.store_laws.specs.Stores.{head_in, length_in, seal_in, seals_of, payload_in, item_heads, Spell, Hold}
+use Rattle.store_laws.specs.Stores.{seal_in, seals_of, payload_in, item_heads, Hold}
 use Rattle.store_laws.proofs.Places.{replaced_other, replaced_heads, replaced_lengths}
 
 pub journal_other : (journal vault : List Record) (i : ℕ) (payload : List ℕ) (c : Carrier) → (c ≡ Journal i → ⊥) → payload_in (replaced journal i payload) vault c ≡ payload_in journal vault c

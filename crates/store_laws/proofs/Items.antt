@@ -1,11 +1,13 @@
 -- The items after an entry: those from before it, and what it logs.
-use Rattle.std.proofs.Common.{◌≡◌, ℕ, zero, suc, ◌+◌, ◌≤◌, ◌<◌, List, [], ◌∷◌, ◌++◌, length, take, drop, Option, Some, None, refl, sym, ap, ◌∙◌, subst, arith, length-append}
-use Rattle.std.proofs.lemmas.List.{take_at, drop_at, take_all, drop_all, take-append-drop, length-map, map-append, nil_from_length}
+use Rattle.std.proofs.Common.{◌≡◌, ℕ, zero, suc, ◌+◌, ◌≤◌, List, [], ◌∷◌, ◌++◌, length, take, drop, Option, Some, None, refl, sym, ap, ◌∙◌, arith}
+use Rattle.std.proofs.lemmas.List.{take_at, drop_at, take_all, drop_all, take-append-drop}
 use Rattle.std.specs.Prelude.{map, slice_get}
+use Rattle.delf_model.specs.declared.rows.ObjectRow.{ObjectRow}
+use Rattle.delf_model.specs.declared.rows.EdgeRow.{EdgeRow}
 use Rattle.delf_model.specs.declared.rows.Item.{Item}
 use Rattle.delf_model.specs.declared.entry.Entry.{Entry}
 use Rattle.delf_model.specs.declared.entry.What.{What}
-use Rattle.delf_model.specs.declared.entry.What.TheVariants.{Create, Update, Link, Unlink, Delete, Restore, Expire, Cut, Erase, Put, Purge}
+use Rattle.delf_model.specs.declared.entry.What.TheVariants.{Cut, Erase, Put}
 use Rattle.delf_model.specs.Graph.{object_at, edge_at}
 use Rattle.delf_model.specs.State.{State, Logged, Handled, step, run, items_after, handled_at, outcome, edge_item, object_item, key_of}
 use Rattle.entry_codec.specs.ItemHead.{item_head}
@@ -77,6 +79,25 @@ new_none s (Put job i) none =
     let how = outcome s (slice_get s.items i) in
     drop_all (length s.items) (handled_at s.items i how) (omega (arith, handled_length s.items i how))
 new_none s w none = drop_all (length s.items) s.items (omega arith)
+
+edge_few : (s : State) (job : ℕ) (o : Option EdgeRow) → length (edge_item s.graph job o) ≤ 1
+edge_few s job None = omega arith
+edge_few s job (Some row) = omega arith
+
+object_few : (job : ℕ) (o : Option ObjectRow) → length (object_item job o) ≤ 1
+object_few job None = omega arith
+object_few job (Some row) = omega arith
+
+behind_few : (xs ys : List Logged) → length ys ≤ 1 → length (drop (length xs) (xs ++ ys)) ≤ 1
+behind_few xs ys few = omega (arith, few, ap length (drop_at xs ys (length xs) refl))
+
+-- an entry logs one item at most
+pub new_few : (s : State) (w : What) → length (new_items s w) ≤ 1
+new_few s (Cut job edge from to) =
+    behind_few s.items (edge_item s.graph job (edge_at s.graph (key_of edge from to))) (edge_few s job (edge_at s.graph (key_of edge from to)))
+new_few s (Erase job id) = behind_few s.items (object_item job (object_at s.graph id)) (object_few job (object_at s.graph id))
+new_few s (Put job i) = omega (arith, ap length (new_none s (Put job i) refl))
+new_few s w = omega (arith, ap length (drop_all (length s.items) s.items (omega arith)))
 
 pub items_split : (s : State) (w : What) → items_after s w ≡ take (length s.items) (items_after s w) ++ new_items s w
 items_split s w = sym (take-append-drop (length s.items) (items_after s w))

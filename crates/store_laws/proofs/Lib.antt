@@ -7,3 +7,6 @@ pub mod Dead
 pub mod Appends
 pub mod Scrubs
 pub mod Sealed
+pub mod Unpurged
+pub mod Lives
+pub mod Remain

@@ -1,5 +1,5 @@
 -- Needed positions: their carriers stand, and a row that is taken was needed.
-use Rattle.std.proofs.Common.{◌≡◌, ℕ, ◌+◌, ◌<◌, Bool, true, false, ◌&&◌, ◌||◌, not, eqb, List, [], ◌∷◌, length, Option, Some, None, refl, sym, ap, ◌∙◌, subst, arith, inl, inr}
+use Rattle.std.proofs.Common.{◌≡◌, ℕ, ◌<◌, true, ◌||◌, not, List, length, Option, Some, None, refl, sym, ◌∙◌, subst, inl, inr}
 use Rattle.std.proofs.lemmas.Bool.{and_parts, eq-eqb, or_left, or_right, cases_Bool, false≢true}
 use Rattle.std.proofs.lemmas.Option.{slice_get_within, same_Some}
 use Rattle.std.specs.Prelude.{is_some}
@@ -8,19 +8,19 @@ use Rattle.delf_model.specs.declared.rows.ObjectRow.{ObjectRow}
 use Rattle.delf_model.specs.declared.rows.EdgeRow.{EdgeRow}
 use Rattle.delf_model.specs.declared.entry.Entry.{Entry}
 use Rattle.delf_model.specs.declared.entry.What.{What}
-use Rattle.delf_model.specs.declared.entry.What.TheVariants.{Create, Update, Link, Unlink, Delete, Restore, Expire, Cut, Erase, Put, Purge}
+use Rattle.delf_model.specs.declared.entry.What.TheVariants.{Cut, Erase}
 use Rattle.delf_model.specs.RuleSet.{RuleSet}
 use Rattle.delf_model.specs.Graph.{has_id, has_key, object_at, edge_at, edge_stands, is_touched}
-use Rattle.delf_model.specs.State.{State, Logged, after, key_of, is_owned_by}
+use Rattle.delf_model.specs.State.{State, after, key_of, is_owned_by}
 use Rattle.delf_model.specs.Legal.{Legal, is_allowed}
 use Rattle.delf_model.specs.Report.{was_put}
-use Rattle.delf_model.specs.Payloads.{is_needed, object_needs, edge_needs, item_needs, Carrier, Journal, Vault, last_carrier, position_of_object, position_of_edge, is_at}
+use Rattle.delf_model.specs.Payloads.{is_needed, object_needs, edge_needs, item_needs, Carrier, Journal, Vault, last_carrier, position_of_object, position_of_edge}
 use Rattle.delf_model.proofs.Leaves.{owner_is}
 use Rattle.delf_model.proofs.Owners.{OwnedStand}
 use Rattle.payload_laws.specs.Holders.{position_taken, PositionsHeld}
 use Rattle.payload_laws.proofs.Members.{found_in, in_any, In}
 use Rattle.payload_laws.proofs.Carriers.{held_or_not, carrier_unheld, carrier_held, unput_vault, put_by, put_journal, HeldLast, PutBy}
-use Rattle.payload_laws.proofs.Placed.{Placed, placed_after, sources_in, sizes_in}
+use Rattle.payload_laws.proofs.Placed.{placed_after}
 
 -- a carrier that stands among the records of a state
 abbrev pub Inside : State → Carrier → Type 0

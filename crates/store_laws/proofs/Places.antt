@@ -1,8 +1,8 @@
 -- Payloads in longer lists of records, and in ones with a payload replaced.
-use Rattle.std.proofs.Common.{◌≡◌, ℕ, zero, suc, ◌+◌, ◌<◌, List, [], ◌∷◌, ◌++◌, length, refl, sym, ap, ◌∙◌, subst, arith, length-append}
+use Rattle.std.proofs.Common.{◌≡◌, ℕ, zero, suc, ◌<◌, List, [], ◌∷◌, ◌++◌, length, refl, ap, arith}
 use Rattle.std.specs.Prelude.{map}
 use Rattle.gate_log.specs.Records.{Record, payload_of, replaced}
-use Rattle.store_laws.specs.Stores.{head_in, length_in, seal_in, seals_of}
+use Rattle.store_laws.specs.Stores.{length_in}
 
 pub payload_inside : (xs ys : List Record) (i : ℕ) → i < length xs → payload_of (xs ++ ys) i ≡ payload_of xs i
 payload_inside [] ys i within = absurd (omega (arith, within))

@@ -10,11 +10,11 @@ use Rattle.gate_log.specs.Steps.{MayScrub, Scrubs}
 use Rattle.delf_model.specs.declared.entry.Entry.{Entry}
 use Rattle.delf_model.specs.RuleSet.{RuleSet}
 use Rattle.delf_model.specs.State.{after}
-use Rattle.delf_model.specs.Payloads.{Payloads, Carrier, Journal, Vault}
+use Rattle.delf_model.specs.Payloads.{Payloads, Journal, Vault}
 use Rattle.payload_laws.specs.Holders.{IsLive}
 use Rattle.store_laws.specs.Logged.{held, IsLog}
 use Rattle.store_laws.specs.Stores.{Hold, Rest, journal_mark, vault_mark, journal_of, vault_of, payload_in}
-use Rattle.store_laws.specs.Steps.{IsZeroed, KeepsOthers, payload_here}
+use Rattle.store_laws.specs.Steps.{IsZeroed, KeepsOthers}
 use Rattle.store_laws.proofs.Spelled.{told_log, log_told}
 use Rattle.store_laws.proofs.Dead.{journal_dead, vault_dead, journal_other, vault_other}
 
@@ -29,17 +29,18 @@ module _ (rules : RuleSet) (h : List Entry) (e : Payloads) (i : ℕ) (sizes : Li
   module _ (dead : IsLive (after rules h) (Journal i) → ⊥) (sized : map size_of (journal_of c) ≡ sizes) where
     journal_now : (payload : List ℕ) → length payload ≡ length (payload_of (journal_of c) i) → d.vault ≡ c.vault → Log journal_mark (replaced (journal_of c) i payload) d.journal →
         Rest rules h d × Hold rules h e (journal_of d) (vault_of d) × KeepsOthers (Journal i) c d × (journal_of d ≡ replaced (journal_of c) i payload)
-    journal_now payload long same log =
-        (record {
-          journal = told.0;
-          vault = subst (λ (v : List ℕ). IsLog vault_mark v) (sym same) rest.vault;
-          spell = now.spell;
-        },
-        now,
-        λ other apart.
-            ap (λ (j : List Record). payload_in j (vault_of d) other) told.1 ∙
-            (ap (λ (v : List ℕ). payload_in (replaced (journal_of c) i payload) (held v) other) same ∙ journal_other (journal_of c) (vault_of c) i payload other apart),
-        told.1)
+    journal_now payload long same log = (
+      record {
+        journal = told.0;
+        vault = subst (λ (v : List ℕ). IsLog vault_mark v) (sym same) rest.vault;
+        spell = now.spell;
+      },
+      now,
+      λ other apart.
+          ap (λ (j : List Record). payload_in j (vault_of d) other) told.1 ∙
+          (ap (λ (v : List ℕ). payload_in (replaced (journal_of c) i payload) (held v) other) same ∙ journal_other (journal_of c) (vault_of c) i payload other apart),
+      told.1,
+    )
       where
         told : IsLog journal_mark d.journal × (journal_of d ≡ replaced (journal_of c) i payload)
         told = told_log journal_mark (replaced (journal_of c) i payload) d.journal log
@@ -66,17 +67,18 @@ module _ (rules : RuleSet) (h : List Entry) (e : Payloads) (i : ℕ) (sizes : Li
   module _ (dead : IsLive (after rules h) (Vault i) → ⊥) (sized : map size_of (vault_of c) ≡ sizes) where
     vault_now : (payload : List ℕ) → length payload ≡ length (payload_of (vault_of c) i) → d.journal ≡ c.journal → Log vault_mark (replaced (vault_of c) i payload) d.vault →
         Rest rules h d × Hold rules h e (journal_of d) (vault_of d) × KeepsOthers (Vault i) c d × (vault_of d ≡ replaced (vault_of c) i payload)
-    vault_now payload long same log =
-        (record {
-          journal = subst (λ (j : List ℕ). IsLog journal_mark j) (sym same) rest.journal;
-          vault = told.0;
-          spell = now.spell;
-        },
-        now,
-        λ other apart.
-            ap (λ (v : List Record). payload_in (journal_of d) v other) told.1 ∙
-            (ap (λ (j : List ℕ). payload_in (held j) (replaced (vault_of c) i payload) other) same ∙ vault_other (journal_of c) (vault_of c) i payload other apart),
-        told.1)
+    vault_now payload long same log = (
+      record {
+        journal = subst (λ (j : List ℕ). IsLog journal_mark j) (sym same) rest.journal;
+        vault = told.0;
+        spell = now.spell;
+      },
+      now,
+      λ other apart.
+          ap (λ (v : List Record). payload_in (journal_of d) v other) told.1 ∙
+          (ap (λ (j : List ℕ). payload_in (held j) (replaced (vault_of c) i payload) other) same ∙ vault_other (journal_of c) (vault_of c) i payload other apart),
+      told.1,
+    )
       where
         told : IsLog vault_mark d.vault × (vault_of d ≡ replaced (vault_of c) i payload)
         told = told_log vault_mark (replaced (vault_of c) i payload) d.vault log

@@ -1,15 +1,15 @@
 -- What the restoration log carries stays what was sealed.
-use Rattle.std.proofs.Common.{◌≡◌, ℕ, zero, suc, ◌+◌, ◌<◌, true, List, [], ◌∷◌, ◌++◌, length, Option, Some, None, refl, sym, ap, ◌∙◌, subst, arith, length-append}
+use Rattle.std.proofs.Common.{◌≡◌, ℕ, zero, suc, ◌<◌, true, List, [], ◌∷◌, ◌++◌, length, Some, refl, sym, ap, ◌∙◌, subst, arith}
 use Rattle.std.proofs.lemmas.List.{length-map}
 use Rattle.std.proofs.lemmas.Option.{same_Some}
 use Rattle.std.specs.Prelude.{slice_get}
 use Rattle.delf_model.specs.declared.entry.Entry.{Entry}
 use Rattle.delf_model.specs.declared.entry.What.{What}
-use Rattle.delf_model.specs.declared.entry.What.TheVariants.{Create, Update, Link, Unlink, Delete, Restore, Expire, Cut, Erase, Put, Purge}
+use Rattle.delf_model.specs.declared.entry.What.TheVariants.{Cut, Erase}
 use Rattle.delf_model.specs.RuleSet.{RuleSet}
 use Rattle.delf_model.specs.State.{State, step, after}
 use Rattle.delf_model.specs.Legal.{Legal, is_legal}
-use Rattle.delf_model.specs.Payloads.{Payloads, is_needed, payload_at, sealed, payloads_after, Carrier, Journal, Vault, last_carrier}
+use Rattle.delf_model.specs.Payloads.{Payloads, is_needed, payload_at, sealed, payloads_after, Vault, last_carrier}
 use Rattle.delf_model.proofs.Runs.{after_push}
 use Rattle.gate_log.specs.Records.{Record}
 use Rattle.payload_laws.specs.Holders.{position_taken, Carried, Stays, Brought, Taken, PutBack, PositionsHeld}

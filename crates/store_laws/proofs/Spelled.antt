@@ -1,10 +1,10 @@
 -- An area that stands for records is a log by its bytes alone, and the other way round.
-use Rattle.std.proofs.Common.{◌≡◌, ◌≢◌, ℕ, ◌+◌, ◌≤◌, ◌^◌, Bool, true, false, cond, not, ◌&&◌, eqb, ltb, leb, List, [], ◌∷◌, ◌++◌, length, take, drop, refl, sym, ap, ◌∙◌, subst, arith, length-append}
-use Rattle.std.proofs.lemmas.Bool.{and_parts, and_from, ltb-true, lt-ltb, leb-true, eqb-true, ne_eqb, not-true, not_from_false, false≢true, eq-eqb}
+use Rattle.std.proofs.Common.{◌≡◌, ◌≢◌, ℕ, ◌+◌, ◌≤◌, ◌^◌, Bool, true, false, cond, eqb, ltb, leb, List, [], ◌∷◌, ◌++◌, length, take, drop, refl, sym, ap, ◌∙◌, subst, arith, length-append}
+use Rattle.std.proofs.lemmas.Bool.{and_parts, and_from, ltb-true, lt-ltb, leb-true, ne_eqb, not-true, not_from_false, false≢true, eq-eqb}
 use Rattle.std.proofs.lemmas.List.{take_at, drop_at, take-append-drop}
 use Rattle.std.specs.Prelude.{IsTrue}
 use Rattle.std.specs.List.{list_all}
-use Rattle.gate_log.specs.Records.{Record, spelled, IsBounded, AreBounded}
+use Rattle.gate_log.specs.Records.{Record, spelled, AreBounded}
 use Rattle.gate_log.specs.Logs.{Log, records}
 use Rattle.gate_log.proofs.Uniqueness.{records-log}
 use Rattle.store_laws.specs.Logged.{held, behind, is_shut, fits_lengths, IsLog}

@@ -1,5 +1,5 @@
 -- An area as a log, told by functions of its bytes alone.
-use Rattle.std.specs.Prelude.{◌≡◌, ℕ, ◌+◌, ◌-◌, ◌^◌, Bool, true, false, cond, not, ◌&&◌, nat_eq, nat_lt, nat_le, List, [], ◌∷◌, ◌++◌, length, map, take, drop, IsTrue}
+use Rattle.std.specs.Prelude.{◌≡◌, ℕ, ◌+◌, ◌^◌, Bool, false, cond, not, ◌&&◌, nat_eq, nat_lt, nat_le, List, [], ◌∷◌, ◌++◌, length, take, drop, IsTrue}
 use Rattle.std.specs.List.{list_all}
 use Rattle.gate_log.specs.Records.{Record, spelled}
 use Rattle.gate_log.specs.Logs.{records}

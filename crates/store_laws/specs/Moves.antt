@@ -1,15 +1,14 @@
 -- What the records of one entry are, and what a book makes of both areas.
-use Rattle.std.specs.Prelude.{◌≡◌, ◌⊎◌, ℕ, ◌≤◌, Bool, true, false, cond, not, List, [], ◌∷◌, ◌++◌, Option, Some, None, length, map, slice_get, drop}
+use Rattle.std.specs.Prelude.{◌≡◌, ◌⊎◌, ℕ, true, List, [], ◌∷◌, ◌++◌, Some, None, length, map, slice_get, drop}
 use Rattle.delf_disk.specs.Areas.{Areas}
 use Rattle.gate_log.specs.Records.{Record, payload_of}
 use Rattle.entry_codec.specs.EntryHead.{entry_head}
-use Rattle.entry_codec.specs.ItemHead.{item_head}
 use Rattle.delf_model.specs.declared.entry.Entry.{Entry}
 use Rattle.delf_model.specs.declared.entry.What.{What}
 use Rattle.delf_model.specs.declared.entry.What.TheVariants.{Put}
 use Rattle.delf_model.specs.RuleSet.{RuleSet}
 use Rattle.delf_model.specs.State.{State, Logged, after, items_after, judged}
-use Rattle.delf_model.specs.Payloads.{Payloads, payload_at, payloads_after, last_carrier}
+use Rattle.delf_model.specs.Payloads.{Payloads, payloads_after, last_carrier}
 use Rattle.payload_laws.specs.Holders.{record_size, brings, position_taken}
 use Rattle.store_laws.specs.Stores.{digest, payload_in, length_in, head_in, logged_size, item_heads, seals_of, StandBut, Rest, Hold, journal_of, vault_of}
 

@@ -1,5 +1,5 @@
 -- What the steps of both logs make of the areas.
-use Rattle.std.specs.Prelude.{◌≡◌, ℕ, List, [], ◌∷◌, ◌++◌, length, replicate, Contains}
+use Rattle.std.specs.Prelude.{◌≡◌, ℕ, List, ◌++◌, length, replicate, Contains}
 use Rattle.delf_disk.specs.Areas.{Areas}
 use Rattle.gate_log.specs.Records.{Record}
 use Rattle.delf_model.specs.declared.entry.Entry.{Entry}

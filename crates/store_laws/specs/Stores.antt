@@ -1,5 +1,5 @@
 -- What the bytes of both areas stand for.
-use Rattle.std.specs.Prelude.{◌≡◌, ◌⊎◌, ℕ, ◌+◌, ◌-◌, ◌≤◌, ◌<◌, Bool, true, false, List, [], ◌∷◌, ◌++◌, Some, None, find, length, map, take, drop, slice_get, replicate, IsTrue}
+use Rattle.std.specs.Prelude.{◌≡◌, ℕ, ◌+◌, ◌-◌, ◌≤◌, true, false, List, [], ◌∷◌, Some, None, find, length, map, take, drop, slice_get, replicate, IsTrue}
 use Rattle.delf_disk.specs.Areas.{Areas}
 use Rattle.gate_log.specs.Records.{Record, payload_of}
 use Rattle.sha2.specs.Sha256.{sha256}

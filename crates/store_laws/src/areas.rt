@@ -7,14 +7,14 @@ ghost use Rattle.gate_log.specs.Logs.{Stands};
 ghost use Rattle.gate_log.specs.Steps.{MayAdd, Adds, MayScrub, Scrubs};
 ghost use Rattle.delf_model.specs.declared.entry.Entry.{Entry};
 ghost use Rattle.delf_model.specs.RuleSet.{RuleSet};
-ghost use Rattle.delf_model.specs.State.{after};
+ghost use Rattle.delf_model.specs.State.{State, after};
 ghost use Rattle.delf_model.specs.Legal.{Legal, is_legal};
-ghost use Rattle.delf_model.specs.Payloads.{Payloads, payloads_after, Journal, Vault};
-ghost use Rattle.payload_laws.specs.Holders.{IsLive, position_taken};
+ghost use Rattle.delf_model.specs.Payloads.{Payloads, payloads_after, Carrier, Journal, Vault};
+ghost use Rattle.payload_laws.specs.Holders.{IsLive, position_taken, scrubbed_by};
 ghost use Rattle.store_laws.specs.Logged.{IsLog};
-ghost use Rattle.store_laws.specs.Stores.{digest, Hold, StandBut, Rest, AreSealed, journal_mark, vault_mark, journal_of, vault_of, vault_for};
+ghost use Rattle.store_laws.specs.Stores.{digest, Hold, StandBut, Rest, AreSealed, AreScrubbed, journal_mark, vault_mark, journal_of, vault_of, vault_for};
 ghost use Rattle.store_laws.specs.Moves.{IsEntryRecord, AreItemRecords, StandsFor};
-ghost use Rattle.store_laws.specs.Steps.{Ahead, IsZeroed, KeepsOthers};
+ghost use Rattle.store_laws.specs.Steps.{Ahead, IsZeroed, KeepsOthers, AreScrubbedBut};
 
 /// An area that is a log stands for records of the sizes of its own, and of no others.
 pub fn logs_stand()
@@ -46,7 +46,7 @@ pub fn journal_appends()
         → IsEntryRecord (after rules history) (vault_of c) entry given r → map size_of (journal_of c) ≡ sizes
         → Adds area.Journal sizes r.head r.payload c d
         → Rest rules (history ++ entry ∷ []) d ×
-          Hold rules (history ++ entry ∷ []) (payloads_after digest (after rules history) entry given e) (journal_of d) (vault_of d) }
+        Hold rules (history ++ entry ∷ []) (payloads_after digest (after rules history) entry given e) (journal_of d) (vault_of d) }
 {}
 
 /// The vault record of an item whose entry is not made yet: the areas stand for the history as before, and have the record once it
@@ -74,7 +74,7 @@ pub fn entry_follows()
         → AreItemRecords (after rules history) (journal_of c) (vault_for rules history c) entry.what (added ∷ []) → map size_of (journal_of c) ≡ sizes
         → Adds area.Journal sizes r.head r.payload c d
         → Rest rules (history ++ entry ∷ []) d ×
-          Hold rules (history ++ entry ∷ []) (payloads_after digest (after rules history) entry given e) (journal_of d) (vault_of d) }
+        Hold rules (history ++ entry ∷ []) (payloads_after digest (after rules history) entry given e) (journal_of d) (vault_of d) }
 {}
 
 /// A scrub of a payload that is not needed: the areas hold the same at every moment, and no other payload changes.
@@ -95,6 +95,20 @@ pub fn dead_scrubs()
         → Rest rules history c → Hold rules history e (journal_of c) (vault_of c) → (IsLive (after rules history) (Vault i) → ⊥)
         → map size_of (vault_of c) ≡ sizes → Scrubs area.Vault sizes i c d
         → Rest rules history d × Hold rules history e (journal_of d) (vault_of d) × IsZeroed (Vault i) c d × KeepsOthers (Vault i) c d }
+{}
+
+/// After an entry zeros stand in every payload that is not needed, but for those that the entry leaves to be scrubbed; each scrub
+/// leaves one less.
+pub fn scrubs_remain()
+    ensures entry { (rules : RuleSet) (history : List Entry) (e : Payloads) (entry : Entry) (given : List ℕ) (journal vault : List Record) (r : Record) (added : List Record)
+        → Legal rules history → is_legal (after rules history) entry ≡ true → Hold rules history e journal vault
+        → AreScrubbed (after rules history) journal vault
+        → IsEntryRecord (after rules history) vault entry given r → AreItemRecords (after rules history) journal vault entry.what added
+        → AreScrubbedBut (after rules (history ++ entry ∷ [])) (scrubbed_by (after rules history) entry.what) (journal ++ r ∷ []) (vault ++ added) }
+    ensures less { (s : State) (carrier : Carrier) (left : List Carrier) (c d : Areas)
+        → AreScrubbedBut s (carrier ∷ left) (journal_of c) (vault_of c) → IsZeroed carrier c d → KeepsOthers carrier c d
+        → AreScrubbedBut s left (journal_of d) (vault_of d) }
+    ensures none { (s : State) (journal vault : List Record) → AreScrubbedBut s [] journal vault → AreScrubbed s journal vault }
 {}
 
 /// Where the restoration log carries what was sealed, it does so after a legal entry.
