@@ -20,40 +20,37 @@ module _ (s : State) (journal vault : List Record) (p : ℕ) where
 
   pair_found : (n : ℕ) → p < n → is_needed s p ≡ true → find (is_at p) (needed_pairs s journal vault n) ≡ Some pair
   pair_found zero below needed = absurd (omega (arith, below))
-  pair_found (suc n) below needed = by_kept (is_needed s n) refl
+  pair_found (suc n) below needed = by_kept (λ apart. pair_found n (omega (arith, below, apart)) needed) (is_needed s n) refl
     where
-      earlier : (n ≡ p → ⊥) → find (is_at p) (needed_pairs s journal vault n) ≡ Some pair
-      earlier apart = pair_found n (omega (arith, below, apart)) needed
-
       here : n ≡ p → is_needed s n ≡ false → ⊥
       here same not = false≢true (sym not ∙ (ap (is_needed s) same ∙ needed))
 
-      by_place : (b : Bool) → eqb n p ≡ b → find (is_at p) ((n, payload_in journal vault (last_carrier s n)) ∷ needed_pairs s journal vault n) ≡ Some pair
-      by_place true same =
+      by_place : ((n ≡ p → ⊥) → find (is_at p) (needed_pairs s journal vault n) ≡ Some pair) → (b : Bool) → eqb n p ≡ b → find (is_at p) ((n, payload_in journal vault (last_carrier s n)) ∷ needed_pairs s journal vault n) ≡ Some pair
+      by_place earlier true same =
           cond-true (eqb n p) (Some (n, payload_in journal vault (last_carrier s n))) (find (is_at p) (needed_pairs s journal vault n)) same ∙
           ap (λ (k : ℕ). Some (k, payload_in journal vault (last_carrier s k))) (eqb-true n p same)
-      by_place false apart =
+      by_place earlier false apart =
           cond-false (eqb n p) (Some (n, payload_in journal vault (last_carrier s n))) (find (is_at p) (needed_pairs s journal vault n)) apart ∙
           earlier (λ same. false≢true (sym apart ∙ eq-eqb n p same))
 
-      by_kept : (b : Bool) → is_needed s n ≡ b →
+      by_kept : ((n ≡ p → ⊥) → find (is_at p) (needed_pairs s journal vault n) ≡ Some pair) → (b : Bool) → is_needed s n ≡ b →
           find (is_at p) (cond b ((n, payload_in journal vault (last_carrier s n)) ∷ needed_pairs s journal vault n) (needed_pairs s journal vault n)) ≡ Some pair
-      by_kept true kept = by_place (eqb n p) refl
-      by_kept false dropped = earlier (λ same. here same dropped)
+      by_kept earlier true kept = by_place earlier (eqb n p) refl
+      by_kept earlier false dropped = earlier (λ same. here same dropped)
 
   pair_none : (n : ℕ) → is_needed s p ≡ false → find (is_at p) (needed_pairs s journal vault n) ≡ None
   pair_none zero unneeded = refl
-  pair_none (suc n) unneeded = by_kept (is_needed s n) refl
+  pair_none (suc n) unneeded = by_kept (pair_none n unneeded) (is_needed s n) refl
     where
       apart_by : is_needed s n ≡ true → n ≡ p → ⊥
       apart_by kept same = false≢true (sym unneeded ∙ (ap (is_needed s) (sym same) ∙ kept))
 
-      by_kept : (b : Bool) → is_needed s n ≡ b →
+      by_kept : find (is_at p) (needed_pairs s journal vault n) ≡ None → (b : Bool) → is_needed s n ≡ b →
           find (is_at p) (cond b ((n, payload_in journal vault (last_carrier s n)) ∷ needed_pairs s journal vault n) (needed_pairs s journal vault n)) ≡ None
-      by_kept true kept =
+      by_kept earlier true kept =
           cond-false (eqb n p) (Some (n, payload_in journal vault (last_carrier s n))) (find (is_at p) (needed_pairs s journal vault n)) (ne_eqb n p (apart_by kept)) ∙
-          pair_none n unneeded
-      by_kept false dropped = pair_none n unneeded
+          earlier
+      by_kept earlier false dropped = earlier
 
 -- what reads holds the payloads that are read there
 pub holds_itself : (rules : RuleSet) (h : List Entry) (c : Areas) → Legal rules h → Spell rules h (journal_of c) (vault_of c) →

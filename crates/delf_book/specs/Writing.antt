@@ -7,10 +7,10 @@ use Rattle.delf_model.specs.declared.entry.Entry.{Entry}
 use Rattle.delf_model.specs.RuleSet.{RuleSet}
 use Rattle.delf_model.specs.State.{State, after}
 use Rattle.delf_model.specs.Legal.{Legal, is_legal}
-use Rattle.delf_model.specs.Payloads.{Payloads, payloads_after}
+use Rattle.delf_model.specs.Payloads.{Payloads, Carrier, payloads_after}
 use Rattle.store_laws.specs.Stores.{digest, journal_of, vault_of, vault_for, Rest, Hold}
 use Rattle.store_laws.specs.Moves.{IsEntryRecord, AreItemRecords, RestIn}
-use Rattle.store_laws.specs.Steps.{Ahead}
+use Rattle.store_laws.specs.Steps.{Ahead, IsZeroed, KeepsOthers}
 
 -- the journal record of an entry
 abbrev pub record_of : Entry → List ℕ → Record
@@ -36,3 +36,12 @@ next_payloads rules history e entry given = payloads_after digest (after rules h
 -- an image that holds this history and these payloads
 abbrev pub Rests : RuleSet → List Entry → Payloads → Areas → Type 0
 Rests rules history e c = Rest rules history c × Hold rules history e (journal_of c) (vault_of c)
+
+-- zeros stand in this payload, and every other one is as it was
+abbrev pub IsScrubbed : Carrier → Areas → Areas → Type 0
+IsScrubbed carrier old now = IsZeroed carrier old now × KeepsOthers carrier old now
+
+-- an image that has the vault record of an item behind the records that these areas have
+abbrev pub HasItem : RuleSet → List Entry → Payloads → Record → Areas → Areas → Type 0
+HasItem rules history e added old c =
+    Ahead rules history e (added ∷ []) c × (journal_of c ≡ journal_of old) × (vault_for rules history c ≡ vault_of old)
