@@ -1,4 +1,6 @@
+pub mod Allowing
 pub mod Changes
 pub mod Entering
 pub mod Held
+pub mod Judging
 pub mod Writes

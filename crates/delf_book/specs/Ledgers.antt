@@ -1,4 +1,9 @@
-use Rattle.std.specs.Prelude.{◌≡◌, ◌≤◌, ◌+◌, ℕ, Bool, true, ◌&&◌, nat_lt, List, [], ◌∷◌, ◌++◌, Option, Some, None, slice_get}
+use Rattle.std.specs.Prelude.{◌≡◌, ◌≤◌, ◌+◌, ℕ, Bool, true, ◌&&◌, nat_lt, List, [], ◌∷◌, ◌++◌, Option, Some, None, length, slice_get}
+use Rattle.job_table.specs.Table.{item_at}
+use Rattle.delf_model.specs.declared.call.Cause.{Cause}
+use Rattle.delf_model.specs.declared.rows.Item.{Item}
+use Rattle.delf_model.specs.declared.call.Call.{Call}
+use Rattle.delf_model.specs.declared.call.Call.TheVariants as call
 use Rattle.delf_model.specs.declared.entry.Entry.{Entry}
 use Rattle.delf_model.specs.declared.entry.What.{What}
 use Rattle.delf_model.specs.declared.entry.What.TheVariants.{Create, Update, Link, Unlink, Delete, Restore, Expire, Cut, Erase, Put, Purge}
@@ -6,7 +11,7 @@ use Rattle.delf_model.specs.declared.rows.EdgeKey.{EdgeKey}
 use Rattle.delf_model.specs.declared.rows.ObjectRow.{ObjectRow}
 use Rattle.delf_model.specs.RuleSet.{RuleSet}
 use Rattle.delf_model.specs.Graph.{Change, Same, PutsObject, TakesObject, RewritesObject, PutsEdge, TakesEdge, object_at}
-use Rattle.delf_model.specs.State.{State, after, owner, key_of, put_change}
+use Rattle.delf_model.specs.State.{State, after, owner, key_of, put_change, judged, size_of}
 
 -- a book without its disk: rules and history, the stored graph, the steps that are held, and how many further entries
 -- and held steps need no memory but for what they put into the graph
@@ -69,3 +74,35 @@ pub record HasEntered {G : Type 0} (old now : Ledgered G) (entry : Entry) : Type
   pub history : now.history ≡ old.history ++ entry ∷ []
   pub held : now.held ≡ old.held
   pub spare : old.spare ≤ now.spare + 1
+
+-- whether the type number of a Create and the edge number of a Link are below the counts of the rules
+abbrev pub is_numbered_call : RuleSet → Call → Bool
+is_numbered_call rules (call.Create kind id payload) = nat_lt kind (length rules.objects)
+is_numbered_call rules (call.Update id payload) = true
+is_numbered_call rules (call.Link edge from to payload) = nat_lt edge (length rules.edges)
+is_numbered_call rules (call.Unlink edge from to name) = true
+is_numbered_call rules (call.Delete id name) = true
+is_numbered_call rules (call.Restore name) = true
+
+-- the size of the payload of an entry's record: a new payload has that of the entry, a row that is put back that of its
+-- item, and no other record has one
+abbrev pub put_size : Option Cause → Item → ℕ
+put_size None it = size_of it
+put_size (Some cause) it = 0
+
+abbrev pub size_of_put : State → Option Item → ℕ
+size_of_put s None = 0
+size_of_put s (Some it) = put_size (judged s it) it
+
+abbrev pub record_size : State → What → ℕ
+record_size s (Create tag kind id size) = size
+record_size s (Update tag id size) = size
+record_size s (Link tag edge from to size) = size
+record_size s (Unlink tag edge from to name) = 0
+record_size s (Delete tag id name) = 0
+record_size s (Restore tag job) = 0
+record_size s (Expire id) = 0
+record_size s (Cut job edge from to) = 0
+record_size s (Erase job id) = 0
+record_size s (Put job i) = size_of_put s (item_at s i)
+record_size s (Purge job) = 0

@@ -2,10 +2,10 @@ ghost use Rattle.std.specs.Prelude.{◌≡◌, ◌≤◌, ℕ, IsTrue, OnOk, is_
 ghost use Rattle.delf_model.specs.declared.rows.EdgeKey.{EdgeKey};
 ghost use Rattle.delf_model.specs.declared.rows.Item.{Item};
 ghost use Rattle.delf_model.specs.Graph.{changed, Same};
-ghost use Rattle.delf_model.specs.State.{State, judged, end_cause, new_object as object_of, due_of, change_of, put_unless, put_of_item};
+ghost use Rattle.delf_model.specs.State.{State, judged, end_cause, new_object as object_of, due_of, change_of, put_unless, put_of_item, size_of as size_of_item};
 ghost use Rattle.job_table.specs.Table.{IsTableOf, IsGraphOf, item_at};
 ghost use Rattle.delf_book.specs.Edits.{change_of_edit, CanChange};
-ghost use Rattle.delf_book.specs.Ledgers.{has_room_for};
+ghost use Rattle.delf_book.specs.Ledgers.{has_room_for, record_size as record_size_of, size_of_put};
 
 use delf_model::{
     EdgeKey, EdgeRow, Entry, GraphStore, Item, Moment, ObjectId, ObjectRow, ObjectRule, Rules,
@@ -145,6 +145,50 @@ fn edit_of_row(item: &Item) -> Edit
     match item {
         Item::Object { row, .. } => Edit::PutObject(*row),
         Item::Edge { row, .. } => Edit::PutEdge(*row),
+    }
+}
+
+/// The size of the payload that a record of this entry has.
+pub(crate) fn record_size<G: GraphStore>(graph: &G, jobs: &JobTable, what: &What) -> u16
+    ensures { (s : State) → IsTableOf s jobs.now → G.graph graph.now ≡ s.graph → result ≡ record_size_of s what.now }
+{
+    match what {
+        What::Create { size, .. } => *size,
+        What::Update { size, .. } => *size,
+        What::Link { size, .. } => *size,
+        What::Unlink { .. } => 0,
+        What::Delete { .. } => 0,
+        What::Restore { .. } => 0,
+        What::Expire { .. } => 0,
+        What::Cut { .. } => 0,
+        What::Erase { .. } => 0,
+        What::Put { item, .. } => put_size(graph, jobs, jobs.item_at(*item)),
+        What::Purge { .. } => 0,
+    }
+}
+
+/// The size of the payload that a record of a put of this item has.
+fn put_size<G: GraphStore>(graph: &G, jobs: &JobTable, item: Option<Item>) -> u16
+    ensures { (s : State) → IsTableOf s jobs.now → G.graph graph.now ≡ s.graph → result ≡ size_of_put s item }
+{
+    match item {
+        Some(item) => {
+            if is_put_back(graph, jobs, &item) {
+                size_of(&item)
+            } else {
+                0
+            }
+        }
+        None => 0,
+    }
+}
+
+fn size_of(item: &Item) -> u16
+    ensures { result ≡ size_of_item item.now }
+{
+    match item {
+        Item::Object { row, .. } => row.size,
+        Item::Edge { row, .. } => row.size,
     }
 }
 

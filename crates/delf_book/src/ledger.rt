@@ -1,22 +1,24 @@
-ghost use Rattle.std.specs.Prelude.{◌≡◌, ◌+◌, ◌≤◌, ℕ, length, nat_eq, [], true, OnOk, IsTrue};
+ghost use Rattle.std.specs.Prelude.{◌≡◌, ◌+◌, ◌*◌, ◌≤◌, ◌&&◌, ℕ, IfOk, length, nat_eq, [], true, OnOk, IsTrue};
 ghost use Rattle.delf_model.specs.declared.entry.What.{What};
 ghost use Rattle.delf_model.specs.RuleSet.{is_refcount};
 ghost use Rattle.delf_model.specs.Graph.{empty_graph};
 ghost use Rattle.delf_model.specs.State.{owner as owner_of, find_job};
-ghost use Rattle.delf_model.specs.Legal.{Legal, used, owed, is_legal, greatest_moment};
+ghost use Rattle.delf_model.specs.Legal.{Legal, used, owed, is_legal, greatest_moment, reply};
 ghost use Rattle.delf_model.specs.Order.{first_step};
 ghost use Rattle.delf_model.specs.Report.{status as status_of, job_at as line_at, listed_at as listed_of, items_of};
 ghost use Rattle.delf_model.specs.Sound.{FirstIsLegal};
 ghost use Rattle.job_table.specs.Table.{IsTableOf, IsGraphOf, item_at as item_of, top_seat as greatest_seat};
-ghost use Rattle.delf_book.specs.Ledgers.{state_of, is_ready, found, IsSame, HasEntered};
+ghost use Rattle.delf_book.specs.Ledgers.{state_of, is_ready, is_numbered_call, record_size as record_size_of, found, IsSame, HasEntered};
 
-use crate::edit::{carry_out, edit_of, make_room};
+use crate::edit::{carry_out, edit_of, make_room, record_size};
 use crate::entries::Entries;
+use crate::legal::is_legal;
 use delf_model::{
-    Entry, GraphStore, Item, Job, JobLine, JobName, Listed, Moment, ObjectId, ObjectRow, Rules,
-    Status, What,
+    Call, Entry, GraphStore, Item, Job, JobLine, JobName, Listed, Moment, ObjectId, ObjectRow,
+    Refusal, Rules, Status, Tag, What,
 };
 use job_table::JobTable;
+use live_writes::judge;
 use order_laws::first_step_is_legal;
 use std::alloc::{AllocError, Global};
 use std::marker::Model;
@@ -188,6 +190,43 @@ impl<G: GraphStore> Ledger<G> {
     {
         first_step_is_legal();
         self.jobs.first(&self.graph, &self.rules, moment)
+    }
+
+    /// What a call of the seat is answered at this moment: what its entry is, or the first refusal that holds. Takes no
+    /// memory.
+    pub fn judge(&self, moment: Moment, seat: u32, call: &Call) -> Result<What, Refusal>
+        requires numbered { IsTrue (is_numbered_call self.now.rules call.now) }
+        requires seat { seat ≤ 64 * (length self.now.history + 1) }
+        requires not_before { (state_of self.now).moment ≤ moment }
+        requires within { moment ≤ greatest_moment }
+        ensures reply { result ≡ reply (state_of self.now) moment seat call.now }
+        ensures legal { IfOk result (λ what. is_legal (state_of self.now) (record { moment = moment; what = what }) ≡ true) }
+    {
+        let tag = Tag {
+            seat,
+            k: self.jobs.seat_entries(seat),
+        };
+        judge(&self.graph, &self.jobs, &self.rules, moment, tag, call)
+    }
+
+    /// Whether the entry may come next. Takes no memory.
+    pub fn is_legal(&self, entry: &Entry) -> bool
+        ensures { result ≡ is_legal (state_of self.now) entry.now }
+    {
+        is_legal(&self.graph, &self.jobs, &self.rules, entry)
+    }
+
+    /// Whether the entry may come next, and its record has a payload of this size.
+    pub(crate) fn fits(&self, entry: &Entry, size: u16) -> bool
+        ensures { result ≡ (is_legal (state_of self.now) entry.now && nat_eq size (record_size_of (state_of self.now) entry.now.what)) }
+    {
+        self.is_legal(entry) && size == self.record_size(&entry.what)
+    }
+
+    fn record_size(&self, what: &What) -> u16
+        ensures { result ≡ record_size_of (state_of self.now) what.now }
+    {
+        record_size(&self.graph, &self.jobs, what)
     }
 
     /// Makes room for `n` further entries and held steps together, but for what they put into the graph. The only error

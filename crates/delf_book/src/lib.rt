@@ -2,10 +2,15 @@
 #![tactic(auto)]
 
 mod answers;
+mod blank;
 mod edit;
 mod entries;
+mod folds;
 mod ledger;
+mod legal;
 mod records;
 
 pub use answers::{BookFault, Receipt, StepFault, Worked};
+pub use blank::fold;
+pub use folds::Fold;
 pub use ledger::Ledger;

@@ -265,16 +265,22 @@ restored_purged job position row = go (nat_eq row.start job)
 pub restore_same : (s : State) → Keeps s → Same s.owners s.graph.objects (owners_after s.rules s.graph s.graph None s.len s.owners) s.graph.objects
 restore_same s k = same_moved s.rules s.graph s.graph s.len s.owners k.ids refl (all_found s.graph.edges)
 
-pub restore_owed : (s : State) (m job : ℕ) (tag : Tag) → Keeps s → is_legal s (record { moment = m; what = Restore tag job }) ≡ true →
+-- what a restore of a job owes that was not restored
+pub restore_owed_of : (s : State) (m job : ℕ) (tag : Tag) (row : JobRow) → Keeps s → job_row s.jobs job ≡ Some row → is_restored s.jobs job ≡ false →
     owed (step s (record { moment = m; what = Restore tag job })) ≡ owed s + sum_by (weight_of job) s.items
-restore_owed s m job tag k l =
-    let facts = restore_facts s m job tag l in
+restore_owed_of s m job tag row k found not_yet =
     omega (
       arith,
       (restore_same s k).weight owes,
       owed_jobs-same (restored_at job s.len) s.jobs (restored_purged job s.len),
-      owed_items-restored s.jobs (map (restored_at job s.len) s.jobs) job s.items (λ other. is_restored-restored job s.len other facts.0 s.jobs facts.1) facts.3,
+      owed_items-restored s.jobs (map (restored_at job s.len) s.jobs) job s.items (λ other. is_restored-restored job s.len other row s.jobs found) not_yet,
     )
+
+pub restore_owed : (s : State) (m job : ℕ) (tag : Tag) → Keeps s → is_legal s (record { moment = m; what = Restore tag job }) ≡ true →
+    owed (step s (record { moment = m; what = Restore tag job })) ≡ owed s + sum_by (weight_of job) s.items
+restore_owed s m job tag k l =
+    let facts = restore_facts s m job tag l in
+    restore_owed_of s m job tag facts.0 k facts.1 facts.3
 
 pub restore_step : (s : State) (m job : ℕ) (tag : Tag) (t : Table) → Ordered s.graph → IsTableOf s t →
     is_legal s (record { moment = m; what = Restore tag job }) ≡ true →

@@ -18,5 +18,6 @@ pub mod Calls
 pub mod Begins
 pub mod Erasures
 pub mod Puts
+pub mod Allowed
 pub mod FreeSteps
 pub mod NextSteps

@@ -1,3 +1,4 @@
+pub mod Allowed
 pub mod Apart
 pub mod Fits
 pub mod Free

@@ -1,12 +1,15 @@
 ghost use Rattle.std.specs.Prelude.{◌≡◌, ◌+◌, ◌<◌, ◌≤◌, ◌^◌, ◌++◌, ◌∷◌, [], OnOk, length, slice_get, option_map, count_by, sum_by, cond, is_some, nat_eq, ◌-◌, ◌&&◌, Some};
+ghost use Rattle.std.specs.List.{list_all};
+ghost use Rattle.job_table.specs.declared.items.Kept.{Kept};
 ghost use Rattle.delf_model.specs.Order.{last_place};
 ghost use Rattle.job_table.specs.Parts.{logged_of, handled_of};
 ghost use Rattle.delf_model.specs.State.{unhandled, handled_at, job_of as job_of_item, is_object_item};
 ghost use Rattle.delf_model.specs.Report.{is_of_job, is_object_of, is_edge_of, is_put_of, is_listed_of, listed_from, was_put as was_put_back, was_listed as was_listed_so};
+ghost use Rattle.delf_model.specs.Legal.{end_handled, is_handled_end as is_handled_end_of};
 ghost use Rattle.job_table.specs.Items.{is_unhandled_of, listing_of};
 ghost use Rattle.job_table.specs.Notes.{weight_of};
 
-use delf_model::{Cause, Item, Job, Listed};
+use delf_model::{Cause, Item, Job, Listed, ObjectId};
 use std::alloc::{AllocError, Global};
 use std::marker::Model;
 
@@ -173,6 +176,13 @@ impl Items {
         sum
     }
 
+    /// Whether each object item of the job with this id and birth is handled.
+    pub fn end_handled(&self, job: Job, id: ObjectId, birth: u32) -> bool
+        ensures { result ≡ end_handled self.now.list job id birth }
+    {
+        all_handled(&self.items, job, id, birth)
+    }
+
     /// The listed item of the job at this place, by falling item number.
     pub fn listed_at(&self, job: Job, place: u32) -> Option<Listed>
         ensures { result ≡ slice_get (listed_from job 0 self.now.list) place }
@@ -197,6 +207,26 @@ fn job_of(item: &Item) -> u32
     match item {
         Item::Object { job, .. } => job.0,
         Item::Edge { job, .. } => job.0,
+    }
+}
+
+fn all_handled(items: &[Kept], job: Job, id: ObjectId, birth: u32) -> bool
+    ensures { result ≡ list_all (λ (kept : Kept). is_handled_end_of job id birth (logged_of kept)) items.now }
+{
+    items
+        .iter()
+        .all(|kept| is_handled_end(kept, job, id, birth))
+}
+
+/// Whether the item is handled, or is no object item of the job with this id and birth.
+fn is_handled_end(kept: &Kept, job: Job, id: ObjectId, birth: u32) -> bool
+    ensures { result ≡ is_handled_end_of job id birth (logged_of kept.now) }
+{
+    match &kept.item {
+        Item::Object { job: other, row } => {
+            !(*other == job && row.id == id && row.birth == birth) || kept.handled.is_some()
+        }
+        Item::Edge { .. } => true,
     }
 }
 

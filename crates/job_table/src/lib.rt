@@ -6,6 +6,7 @@ mod claims;
 mod free;
 mod items;
 mod jobs;
+mod legal;
 mod next;
 mod owners;
 mod seats;

@@ -1,0 +1,4 @@
+pub mod InOrder
+pub mod Undoing
+pub mod Lasts
+pub mod Answering
