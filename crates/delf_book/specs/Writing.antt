@@ -1,5 +1,5 @@
 -- What is written of one entry, and over which images.
-use Rattle.std.specs.Prelude.{◌≡◌, ℕ, ◌≤◌, true, List, [], ◌∷◌, ◌++◌, length, Contains}
+use Rattle.std.specs.Prelude.{◌≡◌, ℕ, ◌≤◌, true, List, [], ◌∷◌, ◌++◌, Option, Some, None, length}
 use Rattle.delf_disk.specs.Areas.{Areas}
 use Rattle.gate_log.specs.Records.{Record}
 use Rattle.entry_codec.specs.EntryHead.{entry_head}
@@ -7,7 +7,7 @@ use Rattle.delf_model.specs.declared.entry.Entry.{Entry}
 use Rattle.delf_model.specs.RuleSet.{RuleSet}
 use Rattle.delf_model.specs.State.{State, after}
 use Rattle.delf_model.specs.Legal.{Legal, is_legal}
-use Rattle.delf_model.specs.Payloads.{Payloads, Carrier, payloads_after}
+use Rattle.delf_model.specs.Payloads.{Payloads, Carrier, Journal, payloads_after}
 use Rattle.store_laws.specs.Stores.{digest, journal_of, vault_of, vault_for, Rest, Hold}
 use Rattle.store_laws.specs.Moves.{IsEntryRecord, AreItemRecords, RestIn}
 use Rattle.store_laws.specs.Steps.{Ahead, IsZeroed, KeepsOthers}
@@ -45,3 +45,8 @@ IsScrubbed carrier old now = IsZeroed carrier old now × KeepsOthers carrier old
 abbrev pub HasItem : RuleSet → List Entry → Payloads → Record → Areas → Areas → Type 0
 HasItem rules history e added old c =
     Ahead rules history e (added ∷ []) c × (journal_of c ≡ journal_of old) × (vault_for rules history c ≡ vault_of old)
+
+-- the journal record that an entry leaves without a needed payload
+abbrev pub dead_carriers : Option ℕ → List Carrier
+dead_carriers None = []
+dead_carriers (Some i) = Journal i ∷ []
