@@ -1,6 +1,9 @@
+pub mod Plainly
 pub mod Allowing
+pub mod Carrying
 pub mod Changes
 pub mod Entering
 pub mod Held
 pub mod Judging
+pub mod Sizes
 pub mod Writes

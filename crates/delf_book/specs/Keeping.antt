@@ -1,5 +1,5 @@
 -- What a book keeps of its logs and its disk while it is up.
-use Rattle.std.specs.Prelude.{◌≡◌, ℕ, zero, suc, ◌+◌, ◌≤◌, true, cond, List, [], ◌∷◌, Some, length, map, slice_get}
+use Rattle.std.specs.Prelude.{◌≡◌, ℕ, zero, suc, ◌+◌, ◌≤◌, true, cond, List, [], ◌∷◌, Some, None, length, map, slice_get}
 use Rattle.delf_disk.specs.declared.area.Area.TheVariants as area
 use Rattle.delf_disk.specs.Areas.{Areas}
 use Rattle.gate_log.specs.Records.{Record}
@@ -8,8 +8,10 @@ use Rattle.entry_codec.specs.EntryHead.{entry_head}
 use Rattle.entry_codec.specs.ItemHead.{item_fields}
 use Rattle.entry_codec.specs.Field.{spelled}
 use Rattle.delf_model.specs.declared.entry.Entry.{Entry}
+use Rattle.delf_model.specs.declared.entry.What.{What}
+use Rattle.delf_model.specs.declared.entry.What.TheVariants.{Put}
 use Rattle.delf_model.specs.RuleSet.{RuleSet}
-use Rattle.delf_model.specs.State.{State, Logged, start, step, after, size_of}
+use Rattle.delf_model.specs.State.{State, Logged, start, step, after, size_of, judged}
 use Rattle.delf_model.specs.Payloads.{Payloads, is_needed, last_carrier, Journal}
 use Rattle.payload_laws.specs.Holders.{record_size}
 use Rattle.store_laws.specs.Stores.{Clean, payload_in, seals_of, journal_of, vault_of}
@@ -25,13 +27,18 @@ abbrev pub item_sizes : Logged → ℕ × ℕ
 item_sizes logged = (length (spelled (item_fields logged.item)) + 32, size_of logged.item)
 
 -- the logs are those of the history, whatever the disk tells
-pub record KeepsLogs (rules : RuleSet) (history : List Entry) (spare : ℕ) (journal vault : LogView) : Type 0 where
+pub record KeepsLogs (rules : RuleSet) (history : List Entry) (journal vault : LogView) : Type 0 where
   pub journal_area : journal.area ≡ area.Journal
   pub vault_area : vault.area ≡ area.Vault
   pub journal_is : journal.sizes ≡ journal_sizes (start rules) history
   pub vault_is : vault.sizes ≡ map item_sizes (after rules history).items
-  pub journal_spare : spare ≤ journal.spare
-  pub vault_spare : spare ≤ vault.spare
+
+-- so many further entries need no memory, but for what they put into the graph
+pub record HasRoom (n ledger : ℕ) (journal vault : LogView) (carriers capacity : ℕ) : Type 0 where
+  pub in_ledger : n ≤ ledger
+  pub in_journal : n ≤ journal.spare
+  pub in_vault : n ≤ vault.spare
+  pub in_carriers : carriers + n ≤ capacity
 
 -- by position, the journal record that carries the payload of a row of the graph
 pub record KeepsCarriers (rules : RuleSet) (history : List Entry) (carriers : List ℕ) : Type 0 where
@@ -56,3 +63,7 @@ payloads_in s areas = record {
 pub record KeepsAreas (rules : RuleSet) (history : List Entry) (seen : Areas) (may_leave : Areas → Type 0) : Type 0 where
   pub rests : RestIn rules history (payloads_in (after rules history) seen) may_leave
   pub clean : Clean rules history seen
+
+-- a put that puts its row back
+abbrev pub PutsBack : State → What → Type 0
+PutsBack s what = (job i : ℕ) × ((logged : Logged) × ((what ≡ Put job i) × (slice_get s.items i ≡ Some logged) × (judged s logged.item ≡ None)))

@@ -1,6 +1,7 @@
 //! The book: what the service knows of one history, and the one way to make the history longer.
 #![tactic(auto)]
 
+mod adding;
 mod answers;
 mod blank;
 mod edit;
@@ -8,6 +9,7 @@ mod entries;
 mod folds;
 mod ledger;
 mod legal;
+mod logs;
 mod records;
 
 pub use answers::{BookFault, Receipt, StepFault, Worked};
