@@ -18,12 +18,8 @@ use Rattle.delf_model.specs.Report.{items_of}
 use Rattle.delf_model.specs.Payloads.{Payloads, payloads_after}
 use Rattle.store_laws.specs.Stores.{digest}
 use Rattle.store_laws.specs.Moves.{RestIn, StandsFor}
+use Rattle.delf_book.specs.Parts.{Interrupted}
 use Rattle.delf_book.specs.declared.answers.Receipt.{Receipt}
-
--- the entry of a call or step that met a disk fault, and the payload that it was given
-pub record Interrupted : Type 0 where
-  pub entry : Entry
-  pub payload : List ℕ
 
 -- rules and history, the stored graph, how many further deletion steps need no memory, whether a disk fault was answered
 -- and what may then stand beside the history, and the disk

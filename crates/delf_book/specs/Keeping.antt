@@ -1,7 +1,8 @@
 -- What a book keeps of its logs and its disk while it is up.
-use Rattle.std.specs.Prelude.{◌≡◌, ℕ, zero, suc, ◌+◌, ◌≤◌, true, cond, List, [], ◌∷◌, Some, None, length, map, slice_get}
+use Rattle.std.specs.Prelude.{◌≡◌, ℕ, zero, suc, ◌+◌, ◌≤◌, Bool, true, cond, List, [], ◌∷◌, Some, None, length, map, slice_get}
 use Rattle.delf_disk.specs.declared.area.Area.TheVariants as area
 use Rattle.delf_disk.specs.Areas.{Areas}
+use Rattle.delf_disk.specs.Plain.{Plain}
 use Rattle.gate_log.specs.Records.{Record}
 use Rattle.gate_log.specs.View.{LogView}
 use Rattle.entry_codec.specs.EntryHead.{entry_head}
@@ -67,3 +68,12 @@ pub record KeepsAreas (rules : RuleSet) (history : List Entry) (seen : Areas) (m
 -- a put that puts its row back
 abbrev pub PutsBack : State → What → Type 0
 PutsBack s what = (job i : ℕ) × ((logged : Logged) × ((what ≡ Put job i) × (slice_get s.items i ≡ Some logged) × (judged s logged.item ≡ None)))
+
+-- all of it, of a book that is up
+pub record KeepsUp (rules : RuleSet) (history : List Entry) (spare ledger : ℕ) (journal vault : LogView) (carriers : List ℕ) (capacity : ℕ) (told honest : Bool) (seen : Areas) (may_leave : Areas → Type 0) : Type 0 where
+  -- what a head can name
+  pub few : length rules.edges ≤ 64
+  pub logs : KeepsLogs rules history journal vault
+  pub carried : KeepsCarriers rules history carriers
+  pub room : HasRoom spare ledger journal vault (length carriers) capacity
+  pub areas : Plain told honest → KeepsAreas rules history seen may_leave

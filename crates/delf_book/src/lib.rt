@@ -3,7 +3,9 @@
 
 mod adding;
 mod answers;
+mod beside;
 mod blank;
+mod book;
 mod edit;
 mod entries;
 mod folds;
@@ -13,6 +15,8 @@ mod logs;
 mod records;
 
 pub use answers::{BookFault, Receipt, StepFault, Worked};
+pub use beside::Beside;
 pub use blank::fold;
+pub use book::Book;
 pub use folds::Fold;
 pub use ledger::Ledger;
