@@ -1,6 +1,13 @@
 -- By position, the journal record that carries the payload of a row, after one entry more.
-use Rattle.std.proofs.Common.{◌≡◌, ℕ, zero, suc, ◌+◌, ◌<◌, true, List, [], ◌∷◌, ◌++◌, length, Option, Some, None, refl, sym, ap, ◌∙◌, subst, arith, length-append}
+use Rattle.std.proofs.Common.{◌≡◌, ℕ, zero, suc, ◌+◌, ◌<◌, true, List, [], ◌∷◌, ◌++◌, length, get_or, Option, Some, None, refl, sym, ap, ◌∙◌, subst, arith, length-append}
 use Rattle.std.specs.Prelude.{slice_get}
+use Rattle.std.proofs.lemmas.Option.{same_Some, slice_get_within}
+use Rattle.delf_model.specs.declared.rows.ObjectRow.{ObjectRow}
+use Rattle.delf_model.specs.declared.rows.EdgeKey.{EdgeKey}
+use Rattle.delf_model.specs.declared.rows.EdgeRow.{EdgeRow}
+use Rattle.delf_model.specs.Graph.{has_id, has_key, object_at, edge_at}
+use Rattle.payload_laws.proofs.Members.{found_in}
+use Rattle.store_laws.proofs.Needs.{row_needed, edge_needed}
 use Rattle.delf_model.specs.declared.entry.Entry.{Entry}
 use Rattle.delf_model.specs.RuleSet.{RuleSet}
 use Rattle.delf_model.specs.State.{State, step, after}
@@ -45,3 +52,32 @@ module _ (rules : RuleSet) (h : List Entry) (entry : Entry) (carriers : List ℕ
         subst (λ (s : State). (p q : ℕ) → is_needed s p ≡ true → last_carrier s p ≡ Journal q → slice_get (carriers ++ length h ∷ []) p ≡ Some q) (sym (after_push rules h entry))
         (λ p q needed at. carried_by not_put p q at (((payloads_held rules h legal).moves entry line).carried p needed));
   }
+
+-- the journal record that carries the payload of a row of the graph
+pub record RowCarried (rules : RuleSet) (h : List Entry) (carriers : List ℕ) (p : ℕ) : Type 0 where
+  pub q : ℕ
+  pub there : slice_get carriers p ≡ Some q
+  pub carried : last_carrier (after rules h) p ≡ Journal q
+  pub below : q < length h
+
+pub object_carried : (rules : RuleSet) (h : List Entry) (carriers : List ℕ) → Legal rules h → KeepsCarriers rules h carriers → (id : ℕ) (row : ObjectRow) →
+    object_at (after rules h).graph id ≡ Some row → RowCarried rules h carriers row.at
+object_carried rules h carriers legal kept id row at =
+    let held = (payloads_held rules h legal).held.objects id row at in
+    let needed = row_needed (after rules h) row.at row (found_in (has_id id) (after rules h).graph.objects row at) refl in
+    record { q = held.0; there = kept.carried row.at held.0 needed held.2; carried = held.2; below = omega (arith, held.1, len_is rules h) }
+
+pub edge_carried : (rules : RuleSet) (h : List Entry) (carriers : List ℕ) → Legal rules h → KeepsCarriers rules h carriers → (key : EdgeKey) (row : EdgeRow) →
+    edge_at (after rules h).graph key ≡ Some row → RowCarried rules h carriers row.birth
+edge_carried rules h carriers legal kept key row at =
+    let held = (payloads_held rules h legal).held.edges key row at in
+    let needed = edge_needed (after rules h) row.birth row (found_in (has_key key) (after rules h).graph.edges row at) refl in
+    record { q = held.0; there = kept.carried row.birth held.0 needed held.2; carried = held.2; below = omega (arith, held.1, len_is rules h) }
+
+pub carried_index : (carriers : List ℕ) (p q i : ℕ) → slice_get carriers p ≡ Some q → i ≡ get_or carriers p 0 → i ≡ q
+carried_index [] p q i there is = absurd (cc there)
+carried_index (x ∷ xs) zero q i there is = is ∙ same_Some x q there
+carried_index (x ∷ xs) (suc p) q i there is = carried_index xs p q i there is
+
+pub carried_within : (carriers : List ℕ) (p q : ℕ) → slice_get carriers p ≡ Some q → p < length carriers
+carried_within carriers p q there = slice_get_within carriers p q there

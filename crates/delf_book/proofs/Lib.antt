@@ -1,9 +1,10 @@
-pub mod Plainly
 pub mod Allowing
+pub mod Asking
 pub mod Carrying
 pub mod Changes
 pub mod Entering
 pub mod Held
 pub mod Judging
+pub mod Plainly
 pub mod Sizes
 pub mod Writes

@@ -11,7 +11,8 @@ use Rattle.delf_model.specs.declared.entry.Entry.{Entry}
 use Rattle.delf_model.specs.declared.entry.What.{What}
 use Rattle.delf_model.specs.declared.entry.What.TheVariants.{Create, Update, Link, Unlink, Delete, Restore, Expire, Cut, Erase, Put, Purge}
 use Rattle.delf_model.specs.RuleSet.{RuleSet}
-use Rattle.delf_model.specs.State.{State, after, start_of}
+use Rattle.delf_model.specs.State.{State, after, start_of, key_of}
+use Rattle.delf_model.specs.Graph.{edge_stands}
 use Rattle.delf_model.specs.Legal.{moment_of, reply}
 use Rattle.delf_model.specs.Order.{first_step}
 use Rattle.delf_model.specs.Report.{items_of}
@@ -19,6 +20,8 @@ use Rattle.delf_model.specs.Payloads.{Payloads, payloads_after}
 use Rattle.store_laws.specs.Stores.{digest}
 use Rattle.store_laws.specs.Moves.{RestIn, StandsFor}
 use Rattle.delf_book.specs.Parts.{Interrupted}
+use Rattle.delf_book.specs.declared.faults.EntryFault.{EntryFault}
+use Rattle.delf_book.specs.declared.faults.EntryFault.TheVariants.{OutOfMemory, Failed}
 use Rattle.delf_book.specs.declared.answers.Receipt.{Receipt}
 
 -- rules and history, the stored graph, how many further deletion steps need no memory, whether a disk fault was answered
@@ -150,7 +153,8 @@ Answers old now moment seat asked (Err refusal) =
 
 abbrev pub CountsRefusal : {T : Type 0} → ℕ → ℕ → Result T Refusal → Type 0
 CountsRefusal before now (Err (refusal.DiskFault len)) = (before ≤ now) × Rose before now
-CountsRefusal before now result = now ≡ before
+CountsRefusal before now (Ok x) = now ≡ before
+CountsRefusal before now (Err refusal) = now ≡ before
 
 -- what a crash may leave: whatever payloads stood, each image since the start is that of the history, or of it with the entry
 
@@ -164,3 +168,39 @@ abbrev pub IsDurable : {R : Type 0} → (R → Areas → Type 0) → RuleSet →
 IsDurable may_leave rules history entry given old now =
     (e : Payloads) → RestIn rules history e (may_leave old) →
     RestIn rules (history ++ entry ∷ []) (payloads_after digest (after rules history) entry given e) (may_leave now)
+
+-- unless a disk call failed
+abbrev pub UnlessFailed : {T : Type 0} → Result T EntryFault → Type 0 → Type 0
+UnlessFailed (Ok x) P = P
+UnlessFailed (Err OutOfMemory) P = P
+UnlessFailed (Err Failed) P = Unit {0}
+
+abbrev pub CountsEntry : {T : Type 0} → ℕ → ℕ → Result T EntryFault → Type 0
+CountsEntry before now (Ok x) = now ≡ before
+CountsEntry before now (Err OutOfMemory) = now ≡ before
+CountsEntry before now (Err Failed) = (before ≤ now) × Rose before now
+
+-- the crash clause of a call by its answer: a call that is not accepted makes no disk call, unless it met a disk fault
+abbrev pub CallIsSafe : {G R : Type 0} → (R → ℕ) → (R → Areas → Type 0) → (R → ℕ → Areas → Type 0) → Booked G R → Booked G R → ℕ → ℕ → Call → Result Receipt Refusal → Type 0
+CallIsSafe at may_leave left_since old now moment seat asked (Ok receipt) =
+    (what : What) → reply (state_in old) moment seat asked ≡ Ok what →
+    IsCrashSafe at may_leave left_since old.rules old.history (record { moment = moment; what = what }) (given_by asked) old.rig now.rig ×
+    IsDurable may_leave old.rules old.history (record { moment = moment; what = what }) (given_by asked) old.rig now.rig
+CallIsSafe at may_leave left_since old now moment seat asked (Err (refusal.DiskFault len)) =
+    (what : What) → reply (state_in old) moment seat asked ≡ Ok what →
+    IsCrashSafe at may_leave left_since old.rules old.history (record { moment = moment; what = what }) (given_by asked) old.rig now.rig
+CallIsSafe at may_leave left_since old now moment seat asked (Err refusal) = now.rig ≡ old.rig
+
+-- the edge that an unlink takes stands
+abbrev pub EdgeStands : State → What → Type 0
+EdgeStands s (Create tag kind id size) = Unit {0}
+EdgeStands s (Update tag id size) = Unit {0}
+EdgeStands s (Link tag edge from to size) = Unit {0}
+EdgeStands s (Unlink tag edge from to name) = edge_stands s.graph (key_of edge from to) ≡ true
+EdgeStands s (Delete tag id name) = Unit {0}
+EdgeStands s (Restore tag job) = Unit {0}
+EdgeStands s (Expire id) = Unit {0}
+EdgeStands s (Cut job edge from to) = Unit {0}
+EdgeStands s (Erase job id) = Unit {0}
+EdgeStands s (Put job i) = Unit {0}
+EdgeStands s (Purge job) = Unit {0}

@@ -1,5 +1,5 @@
 -- What a book keeps of its logs and its disk while it is up.
-use Rattle.std.specs.Prelude.{◌≡◌, ℕ, zero, suc, ◌+◌, ◌≤◌, Bool, true, cond, List, [], ◌∷◌, Some, None, length, map, slice_get}
+use Rattle.std.specs.Prelude.{◌≡◌, ℕ, zero, suc, ◌+◌, ◌≤◌, Bool, true, false, cond, List, [], ◌∷◌, Some, None, length, map, slice_get}
 use Rattle.delf_disk.specs.declared.area.Area.TheVariants as area
 use Rattle.delf_disk.specs.Areas.{Areas}
 use Rattle.delf_disk.specs.Plain.{Plain}
@@ -10,7 +10,7 @@ use Rattle.entry_codec.specs.ItemHead.{item_fields}
 use Rattle.entry_codec.specs.Field.{spelled}
 use Rattle.delf_model.specs.declared.entry.Entry.{Entry}
 use Rattle.delf_model.specs.declared.entry.What.{What}
-use Rattle.delf_model.specs.declared.entry.What.TheVariants.{Put}
+use Rattle.delf_model.specs.declared.entry.What.TheVariants.{Create, Update, Link, Unlink, Delete, Restore, Expire, Cut, Erase, Put, Purge}
 use Rattle.delf_model.specs.RuleSet.{RuleSet}
 use Rattle.delf_model.specs.State.{State, Logged, start, step, after, size_of, judged}
 use Rattle.delf_model.specs.Payloads.{Payloads, is_needed, last_carrier, Journal}
@@ -77,3 +77,17 @@ pub record KeepsUp (rules : RuleSet) (history : List Entry) (spare ledger : ℕ)
   pub carried : KeepsCarriers rules history carriers
   pub room : HasRoom spare ledger journal vault (length carriers) capacity
   pub areas : Plain told honest → KeepsAreas rules history seen may_leave
+
+-- an entry that scrubs at most the payload of the row that it takes or rewrites
+abbrev pub scrubs_rows : What → Bool
+scrubs_rows (Create tag kind id size) = true
+scrubs_rows (Update tag id size) = true
+scrubs_rows (Link tag edge from to size) = true
+scrubs_rows (Unlink tag edge from to name) = true
+scrubs_rows (Delete tag id name) = true
+scrubs_rows (Restore tag job) = true
+scrubs_rows (Expire id) = true
+scrubs_rows (Cut job edge from to) = true
+scrubs_rows (Erase job id) = true
+scrubs_rows (Put job i) = false
+scrubs_rows (Purge job) = false

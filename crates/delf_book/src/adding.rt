@@ -1,5 +1,5 @@
 //! One entry more, in the ledger and on the disk.
-ghost use Rattle.std.specs.Prelude.{◌≡◌, ◌+◌, ◌≤◌, ◌<◌, ℕ, true, None, length, vec_len, vec_capacity, IfSome, IsTrue, OnOk, OnErr};
+ghost use Rattle.std.specs.Prelude.{◌≡◌, ◌+◌, ◌≤◌, ◌<◌, ℕ, true, None, length, vec_capacity, IfSome, IsTrue, OnOk, OnErr};
 ghost use Rattle.delf_disk.specs.Causes.{HasCause};
 ghost use Rattle.delf_disk.specs.Plain.{Plain, SameKind};
 ghost use Rattle.entry_codec.specs.EntryHead.{IsBounded};
@@ -29,7 +29,7 @@ pub(crate) fn add<G: GraphStore, D: Disk>(
     requires logs { KeepsLogs ledger.old.rules ledger.old.history logs.old.journal logs.old.vault }
     requires carriers { KeepsCarriers ledger.old.rules ledger.old.history logs.old.carriers.items }
     requires areas { Plain (D.told disk.old) (D.honest disk.old) → KeepsAreas ledger.old.rules ledger.old.history (D.seen disk.old) (D.may_leave disk.old) }
-    requires room { HasRoom 1 ledger.old.spare logs.old.journal logs.old.vault (vec_len logs.old.carriers) (vec_capacity logs.old.carriers) }
+    requires room { HasRoom 1 ledger.old.spare logs.old.journal logs.old.vault (length logs.old.carriers.items) (vec_capacity logs.old.carriers) }
     requires legal { is_legal (state_of ledger.old) entry.now ≡ true }
     requires moment { entry.now.moment ≤ greatest_moment }
     requires ready { IsTrue (is_ready (G.is_ready_object ledger.old.store) (G.is_ready_edge ledger.old.store) ledger.old entry.now.what) }
@@ -46,8 +46,8 @@ pub(crate) fn add<G: GraphStore, D: Disk>(
     ensures logs { OnOk result (KeepsLogs ledger.new.rules ledger.new.history logs.new.journal logs.new.vault) }
     ensures carriers { OnOk result (KeepsCarriers ledger.new.rules ledger.new.history logs.new.carriers.items) }
     ensures areas { OnOk result (Plain (D.told disk.old) (D.honest disk.old) → KeepsAreas ledger.new.rules ledger.new.history (D.seen disk.new) (D.may_leave disk.new)) }
-    ensures room { OnOk result ((n : ℕ) → HasRoom (n + 1) ledger.old.spare logs.old.journal logs.old.vault (vec_len logs.old.carriers) (vec_capacity logs.old.carriers)
-        → HasRoom n ledger.new.spare logs.new.journal logs.new.vault (vec_len logs.new.carriers) (vec_capacity logs.new.carriers)) }
+    ensures room { OnOk result ((n : ℕ) → HasRoom (n + 1) ledger.old.spare logs.old.journal logs.old.vault (length logs.old.carriers.items) (vec_capacity logs.old.carriers)
+        → HasRoom n ledger.new.spare logs.new.journal logs.new.vault (length logs.new.carriers.items) (vec_capacity logs.new.carriers)) }
 
     ensures crash { Plain (D.told disk.old) (D.honest disk.old)
         → IsCrashSafe D.moment D.may_leave D.left_since ledger.old.rules ledger.old.history entry.now payload.now disk.old disk.new }

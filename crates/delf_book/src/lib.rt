@@ -6,12 +6,18 @@ mod answers;
 mod beside;
 mod blank;
 mod book;
+mod call;
+mod calls;
+mod dead;
 mod edit;
 mod entries;
+mod faults;
 mod folds;
 mod ledger;
 mod legal;
 mod logs;
+mod ready;
+mod receipts;
 mod records;
 
 pub use answers::{BookFault, Receipt, StepFault, Worked};
