@@ -12,8 +12,8 @@ use Rattle.delf_model.specs.declared.entry.What.TheVariants.{Create, Update, Lin
 use Rattle.delf_model.specs.declared.rows.EdgeKey.{EdgeKey}
 use Rattle.delf_model.specs.Graph.{edge_stands}
 use Rattle.delf_model.specs.RuleSet.{RuleSet}
-use Rattle.delf_model.specs.State.{State, Logged, key_of, find_job, first_of_two, judged}
-use Rattle.delf_model.specs.Legal.{absent, condemned, no_edge, refused, refusals, first_refusal, too_long, answered, answered_by, asked, restore_of, reply, reply_at, next_tag, payload_limit}
+use Rattle.delf_model.specs.State.{State, Logged, unlink_start, key_of, find_job, first_of_two, judged}
+use Rattle.delf_model.specs.Legal.{job_taken_if, absent, condemned, no_edge, refused, refusals, first_refusal, too_long, answered, answered_by, asked, restore_of, reply, reply_at, next_tag, payload_limit}
 use Rattle.entry_codec.specs.EntryHead.{IsBounded}
 use Rattle.payload_laws.specs.Holders.{record_size, position_taken}
 use Rattle.delf_book.specs.Books.{HasNumbers, given_by, EdgeStands}
@@ -97,7 +97,7 @@ module _ (rules : RuleSet) (s : State) (objects : length rules.objects ≤ 64) (
       }) w.1
   by_call moment tag (call.Unlink edge from to name) what within is =
       let w = made (Unlink tag edge from to name) what (refused s moment (Unlink tag edge from to name)) is in
-      at_what [] _ what (record { size = refl; small = omega arith; no_item = refl; no_put = λ puts. cc (puts.2.1.0); rows = refl; bounded = omega (arith, within, few); stands = edge_there s from to (key_of edge from to) _ w.0 }) w.1
+      at_what [] _ what (record { size = refl; small = omega arith; no_item = refl; no_put = λ puts. cc (puts.2.1.0); rows = refl; bounded = omega (arith, within, few); stands = edge_there s from to (key_of edge from to) (job_taken_if (is_some (unlink_start s edge from to name)) s name ∷ []) w.0 }) w.1
   by_call moment tag (call.Delete id name) what within is =
       let w = made (Delete tag id name) what (refused s moment (Delete tag id name)) is in
       at_what [] _ what (record { size = refl; small = omega arith; no_item = refl; no_put = λ puts. cc (puts.2.1.0); rows = refl; bounded = tt; stands = tt }) w.1

@@ -1,5 +1,6 @@
 pub mod Allowing
 pub mod Asking
+pub mod Callings
 pub mod Carrying
 pub mod Changes
 pub mod Entering

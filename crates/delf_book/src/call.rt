@@ -29,6 +29,7 @@ impl<G: GraphStore, R: Rig> Book<G, R> {
                 len: self.ledger.len(),
             });
         }
+        let _kinds = self.ledger.rules().objects_len();
         let moment = moment_at(self.ledger.moment(), now);
         let what = self.ledger.judge(moment, seat, call)?;
         let entry = Entry { moment, what };
