@@ -7,5 +7,6 @@ pub mod Entering
 pub mod Held
 pub mod Judging
 pub mod Plainly
+pub mod Settling
 pub mod Sizes
 pub mod Writes

@@ -23,6 +23,8 @@ use Rattle.delf_book.specs.Parts.{Interrupted}
 use Rattle.delf_book.specs.declared.faults.EntryFault.{EntryFault}
 use Rattle.delf_book.specs.declared.faults.EntryFault.TheVariants.{OutOfMemory, Failed}
 use Rattle.delf_book.specs.declared.answers.Receipt.{Receipt}
+use Rattle.delf_book.specs.declared.answers.BookFault.{BookFault}
+use Rattle.delf_book.specs.declared.answers.BookFault.TheVariants as fault
 
 -- rules and history, the stored graph, how many further deletion steps need no memory, whether a disk fault was answered
 -- and what may then stand beside the history, and the disk
@@ -204,3 +206,18 @@ EdgeStands s (Cut job edge from to) = Unit {0}
 EdgeStands s (Erase job id) = Unit {0}
 EdgeStands s (Put job i) = Unit {0}
 EdgeStands s (Purge job) = Unit {0}
+
+-- the rig alone moved
+abbrev pub OnlyRig : {G R : Type 0} → Booked G R → Booked G R → Type 0
+OnlyRig old now = now ≡ record old { rig = now.rig }
+
+-- the answers of a call that adds no entry
+abbrev pub ReadAnswers : {G R T : Type 0} → Booked G R → Booked G R → Result T BookFault → Type 0
+ReadAnswers old now (Ok x) = (old.down ≡ false) × OnlyRig old now
+ReadAnswers old now (Err (fault.Down len)) = WasDown old now len
+ReadAnswers old now (Err (fault.DiskFault len)) = (old.down ≡ false) × Fell old now old.beside × (len ≡ length old.history)
+
+abbrev pub CountsFault : {T : Type 0} → ℕ → ℕ → Result T BookFault → Type 0
+CountsFault before now (Ok x) = now ≡ before
+CountsFault before now (Err (fault.Down len)) = now ≡ before
+CountsFault before now (Err (fault.DiskFault len)) = (before ≤ now) × Rose before now

@@ -19,6 +19,8 @@ mod logs;
 mod ready;
 mod receipts;
 mod records;
+mod settle;
+mod tails;
 
 pub use answers::{BookFault, Receipt, StepFault, Worked};
 pub use beside::Beside;
