@@ -1,19 +1,19 @@
 -- The entry that an accepted call asks for.
-use Rattle.std.proofs.Common.{◌≡◌, ℕ, ◌≤◌, ◌<◌, Bool, true, false, cond, ltb, List, [], ◌∷◌, length, Option, Some, None, refl, sym, ap, ◌∙◌, subst, arith}
+use Rattle.std.proofs.Common.{◌≡◌, ℕ, ◌≤◌, Bool, true, false, cond, ltb, List, [], ◌∷◌, length, Option, Some, None, refl, subst, arith}
 use Rattle.std.proofs.lemmas.Bool.Decides.{nat_tests}
-use Rattle.std.specs.Prelude.{Result, Ok, Err, is_some, slice_get, nat_lt}
+use Rattle.std.specs.Prelude.{Ok, is_some}
 use Rattle.delf_model.specs.declared.call.Call.{Call}
 use Rattle.delf_model.specs.declared.call.Call.TheVariants as call
 use Rattle.delf_model.specs.declared.call.Refusal.{Refusal}
 use Rattle.delf_model.specs.declared.call.Refusal.TheVariants as refusal
 use Rattle.delf_model.specs.declared.entry.Tag.{Tag}
 use Rattle.delf_model.specs.declared.entry.What.{What}
-use Rattle.delf_model.specs.declared.entry.What.TheVariants.{Create, Update, Link, Unlink, Delete, Restore, Expire, Cut, Erase, Put, Purge}
+use Rattle.delf_model.specs.declared.entry.What.TheVariants.{Create, Update, Link, Unlink, Delete, Restore}
 use Rattle.delf_model.specs.declared.rows.EdgeKey.{EdgeKey}
 use Rattle.delf_model.specs.Graph.{edge_stands}
 use Rattle.delf_model.specs.RuleSet.{RuleSet}
-use Rattle.delf_model.specs.State.{State, Logged, unlink_start, key_of, find_job, first_of_two, judged}
-use Rattle.delf_model.specs.Legal.{job_taken_if, absent, condemned, no_edge, refused, refusals, first_refusal, too_long, answered, answered_by, asked, restore_of, reply, reply_at, next_tag, payload_limit}
+use Rattle.delf_model.specs.State.{State, unlink_start, key_of, find_job, first_of_two}
+use Rattle.delf_model.specs.Legal.{job_taken_if, absent, condemned, no_edge, refused, first_refusal, too_long, answered, answered_by, asked, restore_of, reply, next_tag, payload_limit}
 use Rattle.entry_codec.specs.EntryHead.{IsBounded}
 use Rattle.payload_laws.specs.Holders.{record_size, position_taken}
 use Rattle.delf_book.specs.Books.{HasNumbers, given_by, EdgeStands}

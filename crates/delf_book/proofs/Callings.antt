@@ -1,7 +1,11 @@
 -- A call's clauses, told of the book that it found.
 use Rattle.std.proofs.Common.{◌≡◌, ℕ, ◌≤◌, List, length, sym, ap, ◌∙◌, subst}
-use Rattle.std.specs.Prelude.{Result, Ok, Err}
+use Rattle.std.specs.Prelude.{Result, Ok}
 use Rattle.delf_disk.specs.Areas.{Areas}
+use Rattle.delf_disk.specs.Moments.{Leaves}
+use Rattle.delf_model.specs.Payloads.{Payloads}
+use Rattle.store_laws.specs.Moves.{RestIn}
+use Rattle.delf_book.specs.Writing.{Rests}
 use Rattle.delf_model.specs.declared.call.Call.{Call}
 use Rattle.delf_model.specs.declared.call.Refusal.{Refusal}
 use Rattle.delf_model.specs.declared.entry.What.{What}
@@ -42,3 +46,10 @@ module _ {G R : Type 0} (view book : Booked G R) (is : view ≡ book) (now seat 
         IsDurable may_leave b.rules b.history (record { moment = moment_of (state_in b) now; what = other }) (given_by asked) b.rig new) is
         (λ other at. subst (λ (w : What). P (moment_of (state_in view) now) w (given_by asked)) (same_what other at)
         (subst (λ (k : ℕ). P k what (given_by asked)) m_is (subst (λ (p : List ℕ). P m what p) p_is safe)))
+
+-- a call that adds no entry
+pub settle_safe : {G R : Type 0} (view book : Booked G R) → view ≡ book → (new : R) (moment : R → ℕ) (may_leave : R → Areas → Type 0) (left_since : R → ℕ → Areas → Type 0) →
+    ((e : Payloads) → RestIn view.rules view.history e (may_leave view.rig) → Leaves moment may_leave left_since (Rests view.rules view.history e) view.rig new) →
+    (e : Payloads) → RestIn book.rules book.history e (may_leave book.rig) → Leaves moment may_leave left_since (Rests book.rules book.history e) book.rig new
+settle_safe {G} {R} view book is new moment may_leave left_since safe =
+    subst (λ (b : Booked G R). (e : Payloads) → RestIn b.rules b.history e (may_leave b.rig) → Leaves moment may_leave left_since (Rests b.rules b.history e) b.rig new) is safe

@@ -1,5 +1,5 @@
 -- By position, the journal record that carries the payload of a row, after one entry more.
-use Rattle.std.proofs.Common.{◌≡◌, ℕ, zero, suc, ◌+◌, ◌<◌, true, List, [], ◌∷◌, ◌++◌, length, get_or, Option, Some, None, refl, sym, ap, ◌∙◌, subst, arith, length-append}
+use Rattle.std.proofs.Common.{◌≡◌, ℕ, zero, suc, ◌+◌, ◌<◌, true, List, [], ◌∷◌, ◌++◌, length, get_or, Some, refl, sym, ap, ◌∙◌, subst, arith, length-append}
 use Rattle.std.specs.Prelude.{slice_get}
 use Rattle.std.proofs.lemmas.Option.{same_Some, slice_get_within}
 use Rattle.delf_model.specs.declared.rows.ObjectRow.{ObjectRow}
@@ -12,9 +12,9 @@ use Rattle.delf_model.specs.declared.entry.Entry.{Entry}
 use Rattle.delf_model.specs.RuleSet.{RuleSet}
 use Rattle.delf_model.specs.State.{State, step, after}
 use Rattle.delf_model.specs.Legal.{Legal, is_legal}
-use Rattle.delf_model.specs.Payloads.{is_needed, Carrier, Journal, Vault, last_carrier}
+use Rattle.delf_model.specs.Payloads.{is_needed, Journal, last_carrier}
 use Rattle.delf_model.proofs.Runs.{after_push}
-use Rattle.payload_laws.specs.Holders.{Carried, Stays, Brought, Taken, PutBack, PositionsHeld}
+use Rattle.payload_laws.specs.Holders.{Carried, Stays, Brought, Taken, PutBack}
 use Rattle.payload_laws.proofs.Moves.{payloads_held}
 use Rattle.payload_laws.proofs.Carriers.{journal_is, vault_journal}
 use Rattle.store_laws.proofs.Items.{run-len}

@@ -1,5 +1,5 @@
 -- The payloads that the records of a state hold.
-use Rattle.std.proofs.Common.{◌≡◌, ℕ, zero, suc, ◌<◌, Bool, true, false, cond, eqb, List, [], ◌∷◌, Option, Some, None, refl, sym, ap, ◌∙◌, subst, arith, length}
+use Rattle.std.proofs.Common.{◌≡◌, ℕ, zero, suc, ◌<◌, Bool, true, false, cond, eqb, List, ◌∷◌, Some, None, refl, sym, ap, ◌∙◌, arith}
 use Rattle.std.proofs.lemmas.Bool.{eqb-true, eq-eqb, ne_eqb, cond-true, cond-false, false≢true}
 use Rattle.std.specs.Prelude.{find}
 use Rattle.delf_disk.specs.Areas.{Areas}
@@ -8,9 +8,9 @@ use Rattle.delf_model.specs.declared.entry.Entry.{Entry}
 use Rattle.delf_model.specs.RuleSet.{RuleSet}
 use Rattle.delf_model.specs.State.{State, after}
 use Rattle.delf_model.specs.Legal.{Legal}
-use Rattle.delf_model.specs.Payloads.{Payloads, is_needed, is_at, payload_at, bytes_of_pair, last_carrier}
+use Rattle.delf_model.specs.Payloads.{Payloads, is_needed, is_at, bytes_of_pair, last_carrier}
 use Rattle.payload_laws.proofs.Moves.{payloads_held}
-use Rattle.store_laws.specs.Stores.{Spell, Hold, payload_in, seals_of, journal_of, vault_of}
+use Rattle.store_laws.specs.Stores.{Spell, Hold, payload_in, journal_of, vault_of}
 use Rattle.store_laws.specs.Moves.{RestIn}
 use Rattle.delf_book.specs.Keeping.{needed_pairs, payloads_in}
 
@@ -78,6 +78,8 @@ pub rest_as_read : (rules : RuleSet) (h : List Entry) (e : Payloads) (seen : Are
     RestIn rules h (payloads_in (after rules h) seen) images
 rest_as_read rules h e seen images legal now rests = λ c image.
     let here = rests seen now in
-    let there = rests c image in
-    (there.0, hold_moves rules h e (payloads_in (after rules h) seen) (journal_of seen) (vault_of seen) (journal_of c) (vault_of c) here.1
-    (holds_itself rules h seen legal here.0.spell) there.1)
+    let there = rests c image in (
+      there.0,
+      hold_moves rules h e (payloads_in (after rules h) seen) (journal_of seen) (vault_of seen) (journal_of c) (vault_of c) here.1
+          (holds_itself rules h seen legal here.0.spell) there.1,
+    )

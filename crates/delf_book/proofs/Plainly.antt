@@ -1,5 +1,5 @@
 -- An entry that logs no item and puts nothing back.
-use Rattle.std.proofs.Common.{◌≡◌, ℕ, ◌+◌, ◌≤◌, ◌<◌, Bool, true, inl, List, [], ◌∷◌, ◌++◌, length, None, refl, sym, ap, ◌∙◌, subst, arith}
+use Rattle.std.proofs.Common.{◌≡◌, ℕ, ◌≤◌, ◌<◌, Bool, true, inl, List, [], length, None, refl, sym, ap, ◌∙◌, subst, arith}
 use Rattle.std.specs.Prelude.{Option, IfSome, Result, Ok, Err}
 use Rattle.delf_book.specs.declared.faults.EntryFault.{EntryFault}
 use Rattle.delf_book.specs.declared.faults.EntryFault.TheVariants.{OutOfMemory, Failed}
@@ -7,22 +7,21 @@ use Rattle.delf_disk.specs.Areas.{Areas}
 use Rattle.gate_log.specs.Records.{Record}
 use Rattle.delf_model.specs.declared.entry.Entry.{Entry}
 use Rattle.delf_model.specs.RuleSet.{RuleSet}
-use Rattle.delf_model.specs.State.{State, after}
+use Rattle.delf_model.specs.State.{after}
 use Rattle.delf_model.specs.Legal.{Legal, is_legal}
 use Rattle.delf_model.specs.Payloads.{Payloads}
 use Rattle.delf_model.proofs.Runs.{Legal_push}
 use Rattle.payload_laws.specs.Holders.{record_size, position_taken}
-use Rattle.store_laws.specs.Stores.{Rest, Clean, AreScrubbed, journal_of, vault_of, vault_for}
+use Rattle.store_laws.specs.Stores.{Clean, AreScrubbed, journal_of, vault_of, vault_for}
 use Rattle.store_laws.specs.Moves.{RestIn}
 use Rattle.store_laws.proofs.Appends.{ahead_of, no_items}
 use Rattle.gate_log.specs.View.{LogView}
-use Rattle.delf_disk.specs.Moments.{Leaves}
 use Rattle.delf_disk.proofs.Moments.{leaves_started}
 use Rattle.store_laws.specs.Moves.{StandsFor}
 use Rattle.store_laws.proofs.Appends.{rest_stand}
 use Rattle.delf_book.specs.Books.{IsCrashSafe, UnlessFailed}
-use Rattle.delf_book.specs.Keeping.{KeepsAreas, KeepsLogs, KeepsCarriers, KeepsUp, HasRoom, PutsBack, payloads_in}
-use Rattle.delf_book.specs.Writing.{Writes, record_of, longer, next_payloads}
+use Rattle.delf_book.specs.Keeping.{KeepsAreas, KeepsLogs, KeepsCarriers, KeepsUp, HasRoom, PutsBack}
+use Rattle.delf_book.specs.Writing.{Writes, longer, next_payloads}
 use Rattle.delf_book.proofs.Held.{rest_as_read}
 
 pub plain_writes : (rules : RuleSet) (h : List Entry) (e : Payloads) (entry : Entry) (payload : List ℕ) (images : Areas → Type 0) → Legal rules h → is_legal (after rules h) entry ≡ true →
@@ -34,11 +33,11 @@ plain_writes rules h e entry payload images legal line none not_put size rests =
   few = omega arith;
   ahead = λ c image. (ahead_of rules h e c (rests c image).0 (rests c image).1).0;
   one = λ c image. record {
-      head = refl;
-      size = size;
-      brought = λ own. refl;
-      put = λ job i logged puts there free. absurd (not_put (job, i, (logged, (puts, there, free))));
-    };
+    head = refl;
+    size = size;
+    brought = λ own. refl;
+    put = λ job i logged puts there free. absurd (not_put (job, i, (logged, (puts, there, free))));
+  };
   more = λ c image. no_items (after rules h) (journal_of c) (vault_for rules h c) entry.what none;
 }
 
@@ -98,3 +97,13 @@ pub unless_failed : {T P : Type 0} (r : Result T EntryFault) → P → UnlessFai
 unless_failed (Ok x) holds = holds
 unless_failed (Err OutOfMemory) holds = holds
 unless_failed (Err Failed) holds = tt
+
+-- room in logs that lose none
+pub room_lists : (n ledger : ℕ) (journal vault now_journal now_vault : LogView) (carriers now_carriers : List ℕ) (capacity now_capacity : ℕ) → journal.spare ≤ now_journal.spare → vault.spare ≤ now_vault.spare →
+    now_carriers ≡ carriers → now_capacity ≡ capacity → HasRoom n ledger journal vault (length carriers) capacity → HasRoom n ledger now_journal now_vault (length now_carriers) now_capacity
+room_lists n ledger journal vault now_journal now_vault carriers now_carriers capacity now_capacity one two same same_capacity room = record {
+  in_ledger = room.in_ledger;
+  in_journal = omega (arith, room.in_journal, one);
+  in_vault = omega (arith, room.in_vault, two);
+  in_carriers = omega (arith, room.in_carriers, ap length same, same_capacity);
+}

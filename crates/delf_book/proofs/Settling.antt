@@ -1,5 +1,5 @@
 -- What a settled area holds.
-use Rattle.std.proofs.Common.{◌≡◌, ℕ, zero, suc, ◌+◌, true, List, [], ◌∷◌, ◌++◌, length, map, drop, replicate, refl, sym, ap, ◌∙◌, subst, arith, length-append}
+use Rattle.std.proofs.Common.{◌≡◌, ℕ, zero, suc, ◌+◌, true, List, ◌∷◌, ◌++◌, length, map, drop, replicate, refl, sym, ap, ◌∙◌, subst, arith, length-append}
 use Rattle.std.proofs.lemmas.List.{drop_at}
 use Rattle.std.specs.Prelude.{IsTrue}
 use Rattle.delf_disk.specs.Areas.{Areas, rest_of}
@@ -16,7 +16,7 @@ use Rattle.delf_model.specs.RuleSet.{RuleSet}
 use Rattle.delf_model.specs.State.{after}
 use Rattle.delf_model.specs.Payloads.{Payloads}
 use Rattle.store_laws.specs.Logged.{held, behind, are_zeros, IsLog}
-use Rattle.store_laws.specs.Stores.{Rest, Hold, Clean, Settled, AreScrubbed, journal_mark, vault_mark, journal_of, vault_of}
+use Rattle.store_laws.specs.Stores.{Hold, Clean, Settled, AreScrubbed, journal_mark, vault_mark, journal_of, vault_of}
 use Rattle.store_laws.specs.Moves.{RestIn}
 use Rattle.store_laws.proofs.Spelled.{told_log, log_told}
 use Rattle.store_laws.proofs.Appends.{journal_sizes, vault_sizes}
@@ -31,8 +31,8 @@ tail_zeros : (mark : List ℕ) (rs : List Record) (bytes : List ℕ) (n : ℕ) (
 tail_zeros mark rs bytes n log is =
     let long : length (mark ++ spelled rs) ≡ 8 + length (spelled rs) = omega (arith, log.eight, length-append mark (spelled rs)) in
     let there : behind bytes ≡ log.gate ∷ log.tail =
-        ap (λ (l : List Record). drop (8 + length (spelled l)) bytes) (told_log mark rs bytes log).1 ∙
-        (ap (λ (l : List ℕ). drop (8 + length (spelled rs)) l) log.split ∙ drop_at (mark ++ spelled rs) (log.gate ∷ log.tail) (8 + length (spelled rs)) long) in
+    ap (λ (l : List Record). drop (8 + length (spelled l)) bytes) (told_log mark rs bytes log).1 ∙
+    (ap (λ (l : List ℕ). drop (8 + length (spelled rs)) l) log.split ∙ drop_at (mark ++ spelled rs) (log.gate ∷ log.tail) (8 + length (spelled rs)) long) in
     ap (λ (l : List ℕ). are_zeros (drop 1 l)) there ∙ (ap are_zeros is ∙ zeros n)
 
 -- the same records in both areas
@@ -41,14 +41,14 @@ module _ (rules : RuleSet) (h : List Entry) (e : Payloads) (c d : Areas) (rests 
   same_journal same log =
       let told = told_log journal_mark (journal_of c) d.journal log in
       let hold : Hold rules h e (journal_of d) (vault_of d) =
-          subst (λ (v : List ℕ). Hold rules h e (journal_of d) (held v)) (sym same) (subst (λ (j : List Record). Hold rules h e j (vault_of c)) (sym told.1) rests.1) in
+      subst (λ (v : List ℕ). Hold rules h e (journal_of d) (held v)) (sym same) (subst (λ (j : List Record). Hold rules h e j (vault_of c)) (sym told.1) rests.1) in
       ((record { journal = told.0; vault = subst (λ (v : List ℕ). IsLog vault_mark v) (sym same) rests.0.vault; spell = hold.spell }, hold), told.1)
 
   pub same_vault : d.journal ≡ c.journal → Log vault_mark (vault_of c) d.vault → Rests rules h e d × (vault_of d ≡ vault_of c)
   same_vault same log =
       let told = told_log vault_mark (vault_of c) d.vault log in
       let hold : Hold rules h e (journal_of d) (vault_of d) =
-          subst (λ (j : List ℕ). Hold rules h e (held j) (vault_of d)) (sym same) (subst (λ (v : List Record). Hold rules h e (journal_of c) v) (sym told.1) rests.1) in
+      subst (λ (j : List ℕ). Hold rules h e (held j) (vault_of d)) (sym same) (subst (λ (v : List Record). Hold rules h e (journal_of c) v) (sym told.1) rests.1) in
       ((record { journal = subst (λ (j : List ℕ). IsLog journal_mark j) (sym same) rests.0.journal; vault = told.0; spell = hold.spell }, hold), told.1)
 
 module _ (rules : RuleSet) (h : List Entry) (e : Payloads) (place : Area) (sizes : List (ℕ × ℕ)) where
@@ -88,11 +88,11 @@ module _ (rules : RuleSet) (h : List Entry) (e : Payloads) (c m d : Areas) (jour
       let vaults : vault_of d ≡ vault_of c = at_end.1 ∙ ap held one.other in
       record {
         clean = record {
-            rest = at_end.0.0;
-            scrubbed =
-                subst (λ (j : List Record). AreScrubbed (after rules h) j (vault_of d)) (sym journals)
-                (subst (λ (v : List Record). AreScrubbed (after rules h) (journal_of c) v) (sym vaults) clean.scrubbed);
-          };
+          rest = at_end.0.0;
+          scrubbed =
+              subst (λ (j : List Record). AreScrubbed (after rules h) j (vault_of d)) (sym journals)
+              (subst (λ (v : List Record). AreScrubbed (after rules h) (journal_of c) v) (sym vaults) clean.scrubbed);
+        };
         journal_tail = subst (λ (j : List ℕ). IsTrue (are_zeros (drop 1 (behind j)))) (sym two.other) (tail_zeros journal_mark (journal_of c) m.journal _ journal.0 journal.2);
         vault_tail = tail_zeros vault_mark (vault_of m) d.vault _ vault.0 vault.2;
       }

@@ -1,6 +1,6 @@
 -- The lengths of the records of a history.
-use Rattle.std.proofs.Common.{◌≡◌, ℕ, zero, suc, ◌+◌, ◌-◌, ◌≤◌, ◌<◌, true, List, [], ◌∷◌, ◌++◌, length, take, drop, Option, Some, None, refl, sym, ap, ◌∙◌, subst, arith, length-append, length-drop, append-nil}
-use Rattle.std.specs.Prelude.{map, slice_get}
+use Rattle.std.proofs.Common.{◌≡◌, ℕ, suc, ◌+◌, ◌-◌, ◌<◌, List, [], ◌∷◌, ◌++◌, length, take, drop, None, refl, sym, ap, ◌∙◌, subst, arith, length-append, length-drop, append-nil}
+use Rattle.std.specs.Prelude.{map}
 use Rattle.std.proofs.lemmas.List.{map-append}
 use Rattle.delf_disk.specs.Areas.{Areas}
 use Rattle.delf_disk.specs.declared.area.Area.{Area}
@@ -16,11 +16,10 @@ use Rattle.delf_model.specs.declared.entry.What.{What}
 use Rattle.delf_model.specs.declared.rows.Item.{Item}
 use Rattle.delf_model.specs.RuleSet.{RuleSet}
 use Rattle.delf_model.specs.State.{State, Logged, start, step, run, after, items_after}
-use Rattle.delf_model.specs.Legal.{Legal, is_legal}
 use Rattle.delf_model.specs.Payloads.{Payloads}
 use Rattle.delf_model.proofs.Runs.{after_push}
 use Rattle.payload_laws.specs.Holders.{record_size, position_taken}
-use Rattle.store_laws.specs.Stores.{Spell, Rest, head_in, length_in, seal_in, seals_of, item_heads, logged_size, record_sizes, journal_of, vault_of}
+use Rattle.store_laws.specs.Stores.{Rest, head_in, length_in, seal_in, seals_of, item_heads, logged_size, record_sizes, journal_of, vault_of}
 use Rattle.store_laws.specs.Moves.{RestIn, new_items}
 use Rattle.store_laws.proofs.Appends.{journal_stands, vault_stands}
 use Rattle.store_laws.proofs.Items.{item_in, kept_items, new_none, items_split}

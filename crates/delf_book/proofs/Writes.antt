@@ -1,13 +1,13 @@
 -- What the journal record of an entry makes of each image.
-use Rattle.std.proofs.Common.{◌≡◌, ℕ, true, arith, List, [], ◌∷◌, ◌++◌, length, refl, sym, ap, ◌∙◌, subst, ⊎_elim, inl, inr}
-use Rattle.std.specs.Prelude.{map, Result, Ok, Err, OnOk, Contains}
+use Rattle.std.proofs.Common.{◌≡◌, ℕ, true, arith, List, [], ◌∷◌, ◌++◌, refl, sym, ap, ◌∙◌, subst, ⊎_elim, inr}
+use Rattle.std.specs.Prelude.{Result, Ok, Err, OnOk, Contains}
 use Rattle.delf_disk.specs.declared.area.Area.{Area}
 use Rattle.delf_disk.specs.Moments.{Runs, Leaves}
 use Rattle.delf_disk.proofs.Moments.{leaves_first}
 use Rattle.delf_disk.specs.Areas.{Areas}
 use Rattle.delf_disk.specs.declared.area.Area.TheVariants as area
-use Rattle.gate_log.specs.Records.{Record, size_of}
-use Rattle.gate_log.specs.Logs.{Stands, StandIn}
+use Rattle.gate_log.specs.Records.{Record}
+use Rattle.gate_log.specs.Logs.{StandIn}
 use Rattle.gate_log.specs.Steps.{MayAdd, Adds, MayScrub, Scrubs}
 use Rattle.entry_codec.specs.EntryHead.{entry_head}
 use Rattle.delf_model.specs.declared.entry.Entry.{Entry}
@@ -48,7 +48,7 @@ module _ (rules : RuleSet) (h : List Entry) (e : Payloads) (entry : Entry) (give
   remains c d image clean adds =
       let ahead = writes.ahead c image in
       let told = told_log journal_mark (journal_of c ++ record_of entry payload ∷ []) d.journal
-          (adds.here journal_mark (journal_of c) (journal_sizes c sizes (stand c image)) (log_told journal_mark c.journal ahead.journal)) in
+      (adds.here journal_mark (journal_of c) (journal_sizes c sizes (stand c image)) (log_told journal_mark c.journal ahead.journal)) in
       let vaults : vault_of d ≡ vault_for rules h c ++ added = ap held adds.other ∙ ahead.more in
       let but = remain_after rules h e entry given (journal_of c) (vault_for rules h c) (record_of entry payload) added writes.legal writes.line ahead.hold clean (writes.one c image) (writes.more c image) in
       subst (λ (v : List Record). AreScrubbedBut (after rules (longer h entry)) (scrubbed_by (after rules h) entry.what) (journal_of d) v) (sym vaults)

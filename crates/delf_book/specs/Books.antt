@@ -1,5 +1,5 @@
 -- A book: a ledger over its disk. What its calls answer, and what they leave.
-use Rattle.std.specs.Prelude.{◌≡◌, ◌≢◌, ℕ, ◌+◌, ◌≤◌, ◌<◌, Bool, true, false, nat_lt, List, [], ◌∷◌, ◌++◌, Option, Some, None, Result, Ok, Err, length, slice_get}
+use Rattle.std.specs.Prelude.{◌≡◌, ℕ, ◌≤◌, ◌<◌, Bool, true, false, List, [], ◌∷◌, ◌++◌, Option, Some, None, Result, Ok, Err, length}
 use Rattle.delf_disk.specs.Areas.{Areas}
 use Rattle.delf_disk.specs.Causes.{Rose}
 use Rattle.delf_disk.specs.Moments.{Leaves}
@@ -13,8 +13,7 @@ use Rattle.delf_model.specs.declared.entry.What.TheVariants.{Create, Update, Lin
 use Rattle.delf_model.specs.RuleSet.{RuleSet}
 use Rattle.delf_model.specs.State.{State, after, start_of, key_of}
 use Rattle.delf_model.specs.Graph.{edge_stands}
-use Rattle.delf_model.specs.Legal.{moment_of, reply}
-use Rattle.delf_model.specs.Order.{first_step}
+use Rattle.delf_model.specs.Legal.{reply}
 use Rattle.delf_model.specs.Report.{items_of}
 use Rattle.delf_model.specs.Payloads.{Payloads, payloads_after}
 use Rattle.store_laws.specs.Stores.{digest}

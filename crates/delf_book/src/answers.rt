@@ -24,11 +24,15 @@ pub enum Worked {
 #[derive(Clone, Copy, PartialEq, Eq, Debug)]
 pub enum StepFault {
     /// A disk fault was answered since this opening, at this length of the history.
-    Down { len: u32 },
+    Down {
+        len: u32,
+    },
     /// Want of memory; the book is unchanged.
     OutOfMemory,
     /// The disk failed in this step; the book is down from here.
-    DiskFault { len: u32 },
+    DiskFault {
+        len: u32,
+    },
     /// The payload of the item that is to be put back has the SHA-256 `found`, and its record holds another one,
     /// `stored`. The step is not made, and a later step meets the item again.
     Damaged {

@@ -1,19 +1,19 @@
-ghost use Rattle.std.specs.Prelude.{◌≡◌, ◌+◌, ◌*◌, ◌≤◌, ◌<◌, ℕ, true, false, length, vec_len, vec_capacity, IsTrue, IfOk, OnOk, OnErr};
+ghost use Rattle.std.specs.Prelude.{◌≡◌, length};
 ghost use Rattle.delf_disk.specs.declared.area.Order.TheVariants.{FailAfter};
 ghost use Rattle.delf_disk.specs.Areas.{Areas};
-ghost use Rattle.delf_disk.specs.Plain.{Plain, SameKind, NextCount};
-ghost use Rattle.delf_model.specs.Legal.{used, owed, moment_of};
+ghost use Rattle.delf_disk.specs.Plain.{Plain, SameTelling, NextCount};
+ghost use Rattle.delf_disk.specs.Images.{Moves, Same};
+ghost use Rattle.delf_model.specs.Legal.{used, owed};
 ghost use Rattle.delf_model.specs.Report.{status as status_of, job_at as line_at, listed_at as listed_of};
 ghost use Rattle.job_table.specs.Table.{IsGraphOf, top_seat as greatest_seat};
 ghost use Rattle.delf_book.specs.Ledgers.{found};
-ghost use Rattle.delf_book.specs.Books.{Booked, state_in};
+ghost use Rattle.delf_book.specs.Books.{state_in};
 
 use crate::beside::Beside;
 use crate::ledger::Ledger;
 use crate::logs::Logs;
 use delf_disk::Rig;
 use delf_model::{GraphStore, Job, JobLine, JobName, Listed, ObjectId, ObjectRow, Rules, Status};
-use std::alloc::AllocError;
 use std::marker::Model;
 
 /// A history with the disk that holds it: each accepted call and each step is one entry more.
@@ -119,6 +119,11 @@ impl<G: GraphStore, R: Rig> Book<G, R> {
     pub fn fail_after(&mut self, n: u32)
         ensures same { self.new ≡ record self.old { rig = self.new.rig } }
         ensures seen { Plain (R.Disk.told self.old.rig) (R.Disk.honest self.old.rig) → R.Disk.seen self.new.rig ≡ R.Disk.seen self.old.rig }
+        ensures images { Plain (R.Disk.told self.old.rig) (R.Disk.honest self.old.rig)
+            → Moves Same (R.Disk.moment self.old.rig) (R.Disk.moment self.new.rig) (R.Disk.may_leave self.old.rig) (R.Disk.may_leave self.new.rig) (R.Disk.left_since self.old.rig) (R.Disk.left_since self.new.rig) }
+        ensures none_lost { Plain (R.Disk.told self.old.rig) (R.Disk.honest self.old.rig) → (c : Areas) → R.Disk.may_leave self.old.rig c → R.Disk.may_leave self.new.rig c }
+        ensures telling { SameTelling R.Disk.told R.Disk.honest self.old.rig self.new.rig }
+        ensures count { R.Disk.faults self.new.rig ≡ R.Disk.faults self.old.rig }
         ensures order { R.Disk.order self.new.rig ≡ FailAfter n }
         ensures orders { NextCount (R.Disk.orders self.old.rig) (R.Disk.orders self.new.rig) }
     {

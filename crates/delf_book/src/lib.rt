@@ -26,5 +26,6 @@ pub use answers::{BookFault, Receipt, StepFault, Worked};
 pub use beside::Beside;
 pub use blank::fold;
 pub use book::Book;
+pub use delf_model::{Call, Cause, JobLine, Listed, Status};
 pub use folds::Fold;
 pub use ledger::Ledger;

@@ -1,5 +1,5 @@
 //! Zeros behind the closed gates of both areas.
-ghost use Rattle.std.specs.Prelude.{◌≡◌, ◌≤◌, OnOk};
+ghost use Rattle.std.specs.Prelude.{◌≡◌, ◌≤◌, OnOk, vec_capacity};
 ghost use Rattle.delf_disk.specs.Areas.{Areas};
 ghost use Rattle.delf_disk.specs.Causes.{HasCause};
 ghost use Rattle.delf_disk.specs.Plain.{Plain, SameKind};
@@ -30,7 +30,8 @@ pub(crate) fn settle_areas<D: Disk>(logs: &mut Logs, disk: &mut D) -> Result<(),
     ensures vault_area { logs.new.vault.area ≡ logs.old.vault.area }
     ensures vault_sizes { logs.new.vault.sizes ≡ logs.old.vault.sizes }
     ensures vault_spare { logs.old.vault.spare ≤ logs.new.vault.spare }
-    ensures carriers { logs.new.carriers ≡ logs.old.carriers }
+    ensures items { logs.new.carriers.items ≡ logs.old.carriers.items }
+    ensures capacity { vec_capacity logs.new.carriers ≡ vec_capacity logs.old.carriers }
 
     ensures crash { Plain (D.told disk.old) (D.honest disk.old) → (rules : RuleSet) (history : List Entry) (e : Payloads)
         → RestIn rules history e (D.may_leave disk.old)

@@ -1,4 +1,4 @@
-use Rattle.std.proofs.Common.{◌≡◌, ℕ, List, [], ◌∷◌, ◌++◌, length, refl, sym, ap, ◌∙◌, subst}
+use Rattle.std.proofs.Common.{ℕ, List, [], ◌∷◌, ◌++◌, length, refl, sym, ap, ◌∙◌, subst}
 use Rattle.delf_model.specs.declared.entry.Entry.{Entry}
 use Rattle.delf_model.specs.RuleSet.{RuleSet}
 use Rattle.delf_model.specs.State.{start, after}
@@ -47,7 +47,7 @@ returns-clause-areas g c = λ plain.
     let kept = c.requires.areas plain in
     let e = payloads_in (after l.rules l.history) (g.D.Disk.seen c.args.disk.now) in
     let writes = plain_writes l.rules l.history e c.args.entry.now c.args.payload.now (g.D.Disk.may_leave c.args.disk.now) c.len-position.ensures.legal c.requires.legal c.requires.no_item c.requires.no_put
-        c.requires.size kept.rests in
+    c.requires.size kept.rests in
     let old = g.met.D.Disk.reads_as_image c.args.disk.now plain in
     let new = g.met.D.Disk.reads_as_image c.write_over.new.disk (stays_plain c.write_over.ensures.kind plain) in
     at_ledger (λ (r : RuleSet) (h : List Entry). KeepsAreas r h (g.D.Disk.seen c.write_over.new.disk) (g.D.Disk.may_leave c.write_over.new.disk)) l.rules _ (l.history ++ c.args.entry.now ∷ []) _

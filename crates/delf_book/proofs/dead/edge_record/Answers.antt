@@ -1,4 +1,4 @@
-use Rattle.std.proofs.Common.{◌≡◌, ℕ, ◌<◌, List, [], ◌∷◌, Some, get_or, refl, sym, ap, ◌∙◌, arith}
+use Rattle.std.proofs.Common.{◌≡◌, ℕ, [], ◌∷◌, Some, get_or, refl, sym, ap, ◌∙◌, arith}
 use Rattle.delf_model.specs.Graph.{Graph, edge_at}
 use Rattle.delf_model.specs.Payloads.{Carrier, Journal}
 use Rattle.payload_laws.specs.Holders.{carrier_of_edge}

@@ -1,10 +1,9 @@
-use Rattle.std.proofs.Common.{◌≡◌, ℕ, List, [], ◌∷◌, sym, ap, ◌∙◌}
+use Rattle.std.proofs.Common.{◌≡◌, [], ◌∷◌, sym, ap, ◌∙◌}
 use Rattle.delf_disk.proofs.Moments.{leaves_widened}
 use Rattle.delf_disk.proofs.Flags.{stays_plain}
 use Rattle.delf_model.specs.declared.entry.Entry.{Entry}
-use Rattle.delf_model.specs.RuleSet.{RuleSet}
 use Rattle.delf_model.specs.State.{after}
-use Rattle.delf_model.specs.Payloads.{Payloads, Carrier, Journal}
+use Rattle.delf_model.specs.Payloads.{Journal}
 use Rattle.payload_laws.specs.Holders.{scrubbed_by}
 use Rattle.delf_book.specs.Writing.{dead_carriers, longer, next_payloads}
 use Rattle.delf_book.proofs.Writes.{on_ok, leaves_joined, rests_stand, dead_one, clean_one, clean_none}

@@ -1,11 +1,7 @@
 use Rattle.std.proofs.Common.{sym, subst}
 use Rattle.delf_disk.specs.Areas.{Areas}
-use Rattle.delf_disk.specs.declared.area.Area.{Area}
-use Rattle.delf_disk.specs.declared.area.Area.TheVariants as area
 use Rattle.delf_disk.proofs.Flags.{stays_plain}
-use Rattle.gate_log.specs.Logs.{Stands, StandIn}
 use Rattle.store_laws.specs.Stores.{Settled}
-use Rattle.store_laws.proofs.Appends.{journal_sizes, vault_sizes}
 use Rattle.delf_book.proofs.Writes.{on_ok, leaves_joined}
 use Rattle.delf_book.proofs.Settling.{journal_settles, vault_settles, both_settled, vault_stand_after, journal_sized_at, vault_sized_at}
 use Rattle.delf_book.proofs.tails.settle_areas.Goals as goal
@@ -33,7 +29,7 @@ returns-clause-settled g c =
     let old = g.met.D.Disk.reads_as_image c.args.disk.now plain in
     let mid = g.met.D.Disk.reads_as_image c.settle.new.disk at_mid in
     let vault = vault_stand_after logs.vault.area logs.journal.area logs.vault.sizes logs.journal.sizes (g.D.Disk.may_leave c.args.disk.now) (g.D.Disk.seen c.settle.new.disk) c.requires.vault c.requires.journal
-        (c.requires.vault_stands plain) ((c.settle.ensures.any_moment plain).now (g.D.Disk.seen c.settle.new.disk) mid) in
+    (c.requires.vault_stands plain) ((c.settle.ensures.any_moment plain).now (g.D.Disk.seen c.settle.new.disk) mid) in
     subst (λ (y : Areas). Settled rules h y) (sym (only at_mid x image))
     (both_settled rules h e (g.D.Disk.seen c.args.disk.now) (g.D.Disk.seen c.settle.new.disk) (g.D.Disk.seen c.settle-2.new.disk) logs.journal.area logs.vault.area logs.journal.sizes logs.vault.sizes
     c.requires.journal c.requires.vault (rests (g.D.Disk.seen c.args.disk.now) old) (first.now (g.D.Disk.seen c.settle.new.disk) mid) clean
