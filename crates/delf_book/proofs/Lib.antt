@@ -1,4 +1,12 @@
 pub mod Allowing
+pub mod Asking
+pub mod Callings
+pub mod Carrying
 pub mod Changes
 pub mod Entering
+pub mod Held
 pub mod Judging
+pub mod Plainly
+pub mod Settling
+pub mod Sizes
+pub mod Writes

@@ -5,3 +5,8 @@ use Rattle.delf_model.specs.declared.entry.Entry.{Entry}
 pub record EntryPart : Type 0 where
   pub list : List Entry
   pub spare : ℕ
+
+-- the entry of a call or step that met a disk fault, and the payload that it was given
+pub record Interrupted : Type 0 where
+  pub entry : Entry
+  pub payload : List ℕ

@@ -1,0 +1,149 @@
+ghost use Rattle.std.specs.Prelude.{◌≡◌, length};
+ghost use Rattle.delf_disk.specs.declared.area.Order.TheVariants.{FailAfter};
+ghost use Rattle.delf_disk.specs.Areas.{Areas};
+ghost use Rattle.delf_disk.specs.Plain.{Plain, SameTelling, NextCount};
+ghost use Rattle.delf_disk.specs.Images.{Moves, Same};
+ghost use Rattle.delf_model.specs.Legal.{used, owed};
+ghost use Rattle.delf_model.specs.Report.{status as status_of, job_at as line_at, listed_at as listed_of};
+ghost use Rattle.job_table.specs.Table.{IsGraphOf, top_seat as greatest_seat};
+ghost use Rattle.delf_book.specs.Ledgers.{found};
+ghost use Rattle.delf_book.specs.Books.{state_in};
+
+use crate::beside::Beside;
+use crate::ledger::Ledger;
+use crate::logs::Logs;
+use delf_disk::Rig;
+use delf_model::{GraphStore, Job, JobLine, JobName, Listed, ObjectId, ObjectRow, Rules, Status};
+use std::marker::Model;
+
+/// A history with the disk that holds it: each accepted call and each step is one entry more.
+///
+/// A disk fault makes it down, with the history that it had. It keeps the entry that may then stand beside it, and makes
+/// no disk call any more.
+#[derive(Drop)]
+pub struct Book<G: GraphStore, R: Rig> {
+    pub(crate) ledger: Ledger<G>,
+    pub(crate) logs: Logs,
+    pub(crate) spare: u32,
+    pub(crate) down: bool,
+    pub(crate) beside: Option<Beside>,
+    pub(crate) rig: R,
+}
+
+impl<G: GraphStore, R: Rig> Model for Book<G, R> {
+    ghost use Rattle.std.specs.Prelude.{◌≡◌, false, vec_capacity};
+    ghost use Rattle.delf_book.specs.Books.{Booked};
+    ghost use Rattle.delf_book.specs.Keeping.{KeepsUp};
+
+    ghost Value = { Booked G R };
+
+    ghost view = { λ b. record { rules = b.ledger.rules; history = b.ledger.history; store = b.ledger.store; spare = b.spare; down = b.down; beside = b.beside; rig = b.rig } };
+
+    ghost invariant = { λ b. b.down ≡ false → KeepsUp b.ledger.rules b.ledger.history b.spare b.ledger.spare b.logs.journal b.logs.vault b.logs.carriers.items (vec_capacity b.logs.carriers) (R.Disk.told b.rig) (R.Disk.honest b.rig) (R.Disk.seen b.rig) (R.Disk.may_leave b.rig) };
+}
+
+impl<G: GraphStore, R: Rig> Book<G, R> {
+    /// The present rules.
+    pub fn rules(&self) -> &Rules
+        ensures { result.now ≡ self.now.rules }
+    {
+        self.ledger.rules()
+    }
+
+    /// The graph after the history.
+    pub fn graph(&self) -> &G
+        ensures store { result.now ≡ self.now.store }
+        ensures of { IsGraphOf (state_in self.now) (G.graph result.now) (G.counts result.now) self.now.rules }
+    {
+        self.ledger.graph()
+    }
+
+    /// The length of the history.
+    pub fn len(&self) -> u32
+        ensures { result ≡ length self.now.history }
+    {
+        self.ledger.len()
+    }
+
+    /// Whether a disk fault was answered since the book was opened.
+    pub fn is_down(&self) -> bool
+        ensures { result ≡ self.now.down }
+    {
+        self.down
+    }
+
+    /// The number of entries, and of those that may still be owed.
+    pub fn room(&self) -> (u32, u32)
+        ensures { result ≡ (used (state_in self.now), owed (state_in self.now)) }
+    {
+        self.ledger.room()
+    }
+
+    /// The greatest seat of a tag in the history, 0 where there is none.
+    pub fn top_seat(&self) -> u32
+        ensures { result ≡ greatest_seat (state_in self.now) }
+    {
+        self.ledger.top_seat()
+    }
+
+    /// The object with its owner.
+    pub fn get(&self, id: ObjectId) -> Option<(ObjectRow, Option<Job>)>
+        ensures { result ≡ found (state_in self.now) id }
+    {
+        self.ledger.get(id)
+    }
+
+    /// The status of the job that the name means.
+    pub fn status(&self, name: JobName) -> Status
+        ensures { result ≡ status_of (state_in self.now) name }
+    {
+        self.ledger.status(name)
+    }
+
+    /// The line of the job at this place, by age.
+    pub fn job_at(&self, i: u32) -> Option<JobLine>
+        ensures { result ≡ line_at (state_in self.now) i }
+    {
+        self.ledger.job_at(i)
+    }
+
+    /// The listed item of the job at this place, by falling item number.
+    pub fn listed_at(&self, job: Job, i: u32) -> Option<Listed>
+        ensures { result ≡ listed_of (state_in self.now) job i }
+    {
+        self.ledger.listed_at(job, i)
+    }
+
+    /// Lets the `n`-th disk call from now fail, in place of one that was to fail by an earlier order. At 0 no call fails
+    /// by it.
+    pub fn fail_after(&mut self, n: u32)
+        ensures same { self.new ≡ record self.old { rig = self.new.rig } }
+        ensures seen { Plain (R.Disk.told self.old.rig) (R.Disk.honest self.old.rig) → R.Disk.seen self.new.rig ≡ R.Disk.seen self.old.rig }
+        ensures images { Plain (R.Disk.told self.old.rig) (R.Disk.honest self.old.rig)
+            → Moves Same (R.Disk.moment self.old.rig) (R.Disk.moment self.new.rig) (R.Disk.may_leave self.old.rig) (R.Disk.may_leave self.new.rig) (R.Disk.left_since self.old.rig) (R.Disk.left_since self.new.rig) }
+        ensures none_lost { Plain (R.Disk.told self.old.rig) (R.Disk.honest self.old.rig) → (c : Areas) → R.Disk.may_leave self.old.rig c → R.Disk.may_leave self.new.rig c }
+        ensures telling { SameTelling R.Disk.told R.Disk.honest self.old.rig self.new.rig }
+        ensures count { R.Disk.faults self.new.rig ≡ R.Disk.faults self.old.rig }
+        ensures order { R.Disk.order self.new.rig ≡ FailAfter n }
+        ensures orders { NextCount (R.Disk.orders self.old.rig) (R.Disk.orders self.new.rig) }
+    {
+        self.rig.fail_after(n);
+    }
+}
+
+impl<G: GraphStore + Drop, R: Rig> Book<G, R> {
+    /// The disk.
+    pub fn into_disk(self) -> R
+        ensures { result ≡ self.rig }
+    {
+        let Book {
+            ledger: _,
+            logs: _,
+            spare: _,
+            down: _,
+            beside: _,
+            rig,
+        } = self;
+        rig
+    }
+}

@@ -1,0 +1,57 @@
+//! Writing calls.
+ghost use Rattle.std.specs.Prelude.{◌+◌, ◌*◌, ◌≤◌, length};
+ghost use Rattle.delf_disk.specs.Plain.{Plain, SameKind};
+ghost use Rattle.delf_model.specs.Legal.{moment_of};
+ghost use Rattle.delf_book.specs.Books.{Answers, CallIsSafe, CountsRefusal, HasNumbers, state_in};
+
+use crate::answers::Receipt;
+use crate::beside::Beside;
+use crate::book::Book;
+use crate::calls::enter;
+use crate::faults::EntryFault;
+use crate::receipts::{moment_at, payload_of, receipt_of};
+use delf_disk::Rig;
+use delf_model::{Call, Entry, GraphStore, Moment, Refusal};
+
+impl<G: GraphStore, R: Rig> Book<G, R> {
+    /// Makes a writing call of this seat, where the clock says `now`.
+    pub fn call(&mut self, now: Moment, seat: u32, call: &Call) -> Result<Receipt, Refusal>
+        requires numbers { HasNumbers self.old.rules call.now }
+        requires seat { seat ≤ 64 * (length self.old.history + 1) }
+        ensures answer { Answers self.old self.new (moment_of (state_in self.old) now) seat call.now result }
+        ensures crash { Plain (R.Disk.told self.old.rig) (R.Disk.honest self.old.rig)
+            → CallIsSafe R.Disk.moment R.Disk.may_leave R.Disk.left_since self.old self.new (moment_of (state_in self.old) now) seat call.now result }
+        ensures kind { SameKind R.Disk.told R.Disk.honest R.Disk.order R.Disk.orders self.old.rig self.new.rig }
+        ensures cause { CountsRefusal (R.Disk.faults self.old.rig) (R.Disk.faults self.new.rig) result }
+    {
+        if self.down {
+            return Err(Refusal::Down {
+                len: self.ledger.len(),
+            });
+        }
+        let _kinds = self.ledger.rules().objects_len();
+        let moment = moment_at(self.ledger.moment(), now);
+        let what = self.ledger.judge(moment, seat, call)?;
+        let entry = Entry { moment, what };
+        let receipt = receipt_of(&self.ledger, &entry.what);
+        let payload = payload_of(call);
+        match enter(
+            &mut self.ledger,
+            &mut self.logs,
+            &mut self.rig,
+            self.spare,
+            &entry,
+            payload,
+        ) {
+            Ok(()) => Ok(receipt),
+            Err(EntryFault::OutOfMemory) => Err(Refusal::OutOfMemory),
+            Err(EntryFault::Failed) => {
+                self.down = true;
+                self.beside = Some(Beside::of(&entry, payload));
+                Err(Refusal::DiskFault {
+                    len: receipt.position,
+                })
+            }
+        }
+    }
+}

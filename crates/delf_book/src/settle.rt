@@ -1,0 +1,64 @@
+//! Room that is kept ready, and areas with no payload behind their closed gates.
+ghost use Rattle.std.specs.Prelude.{◌≡◌, ◌≤◌, false, OnOk};
+ghost use Rattle.delf_disk.specs.Areas.{Areas};
+ghost use Rattle.delf_disk.specs.Plain.{Plain, SameKind};
+ghost use Rattle.delf_disk.specs.Moments.{Leaves};
+ghost use Rattle.delf_model.specs.Payloads.{Payloads};
+ghost use Rattle.store_laws.specs.Stores.{Settled};
+ghost use Rattle.store_laws.specs.Moves.{RestIn};
+ghost use Rattle.delf_book.specs.Books.{Stayed, ReadAnswers, CountsFault};
+ghost use Rattle.delf_book.specs.Writing.{Rests};
+
+use crate::answers::BookFault;
+use crate::book::Book;
+use crate::ready::make_room;
+use crate::tails::settle_areas;
+use delf_disk::{Failed, Rig};
+use delf_model::GraphStore;
+use std::alloc::AllocError;
+
+impl<G: GraphStore, R: Rig> Book<G, R> {
+    /// Makes room for `n` further deletion steps: an expiry, a cut, an erasure or a purge. The only error is want of
+    /// memory.
+    pub fn reserve(&mut self, n: u32) -> Result<(), AllocError>
+        ensures ok { OnOk result (n ≤ self.new.spare) }
+        ensures same { Stayed self.old self.new }
+    {
+        match make_room(&mut self.ledger, &mut self.logs, n) {
+            Ok(()) => {
+                if n > self.spare {
+                    self.spare = n;
+                }
+                Ok(())
+            }
+            Err(AllocError) => Err(AllocError),
+        }
+    }
+
+    /// Writes zeros over each area from behind its closed gate to its end, and syncs. After it no payload is there that
+    /// is not needed.
+    pub fn settle(&mut self) -> Result<(), BookFault>
+        ensures answer { ReadAnswers self.old self.new result }
+        ensures crash { Plain (R.Disk.told self.old.rig) (R.Disk.honest self.old.rig) → self.old.down ≡ false → (e : Payloads)
+            → RestIn self.old.rules self.old.history e (R.Disk.may_leave self.old.rig)
+            → Leaves R.Disk.moment R.Disk.may_leave R.Disk.left_since (Rests self.old.rules self.old.history e) self.old.rig self.new.rig }
+        ensures settled { OnOk result (Plain (R.Disk.told self.old.rig) (R.Disk.honest self.old.rig) → (c : Areas)
+            → R.Disk.may_leave self.new.rig c → Settled self.old.rules self.old.history c) }
+        ensures kind { SameKind R.Disk.told R.Disk.honest R.Disk.order R.Disk.orders self.old.rig self.new.rig }
+        ensures cause { CountsFault (R.Disk.faults self.old.rig) (R.Disk.faults self.new.rig) result }
+    {
+        if self.down {
+            return Err(BookFault::Down {
+                len: self.ledger.len(),
+            });
+        }
+        let len = self.ledger.len();
+        match settle_areas(&mut self.logs, &mut self.rig) {
+            Ok(()) => Ok(()),
+            Err(Failed) => {
+                self.down = true;
+                Err(BookFault::DiskFault { len })
+            }
+        }
+    }
+}
