@@ -1,0 +1,4 @@
+pub mod Settling
+pub mod Dropping
+pub mod Starting
+pub mod Unique
