@@ -19,6 +19,7 @@ ghost use Rattle.store_laws.specs.Logged.{IsLog, behind, are_zeros};
 ghost use Rattle.store_laws.specs.Stores.{Hold, StandBut, Rest, Clean, Settled, journal_mark, vault_mark, journal_of, vault_of};
 ghost use Rattle.store_laws.specs.Steps.{Ahead};
 ghost use Rattle.opening_laws.specs.Entries.{AreEntries, SamePayloads};
+ghost use Rattle.opening_laws.specs.Places.{BadPlace};
 
 /// Whatever a crash leaves of the bytes behind a closed gate, the areas hold the same records, history and payloads.
 pub fn areas_may_settle()
@@ -90,4 +91,9 @@ pub fn one_history_stands()
         → StandBut rules h d c → StandBut rules g e c → h ≡ g }
     ensures payloads { (rules : RuleSet) (h : List Entry) (d e : Payloads) (c : Areas)
         → StandBut rules h d c → StandBut rules h e c → SamePayloads d e }
+{}
+
+/// A store is bad at one place at most.
+pub fn one_place_is_bad()
+    ensures { (rules : RuleSet) (c : Areas) (x y : Area) (a b : ℕ) → BadPlace rules c x a → BadPlace rules c y b → (x ≡ y) × (a ≡ b) }
 {}
