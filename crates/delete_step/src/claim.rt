@@ -1,7 +1,7 @@
-ghost use Rattle.std.specs.Prelude.{◌≡◌, ◌<◌, ◌≤◌, length};
+ghost use Rattle.std.specs.Prelude.{◌≡◌, ◌≤◌, length};
 ghost use Rattle.delf_model.specs.declared.TheConstants.{LIMIT};
-ghost use Rattle.entry_codec.specs.declared.limits.TheConstants.{TYPE_COUNT, LARGEST_PAYLOAD};
-ghost use Rattle.entry_codec.specs.ItemHead.{item_size, item_type};
+ghost use Rattle.entry_codec.specs.declared.limits.TheConstants.{LARGEST_PAYLOAD};
+ghost use Rattle.entry_codec.specs.ItemHead.{item_size, IsTypeBounded};
 
 use delf_model::{Item, LIMIT};
 use std::marker::Model;
@@ -32,7 +32,7 @@ impl Claim {
     pub fn of(item: Item, payload: &[u8]) -> Claim
         requires size { length payload.now ≡ item_size item }
         requires largest { item_size item ≤ LARGEST_PAYLOAD }
-        requires types { item_type item < TYPE_COUNT }
+        requires types { IsTypeBounded item }
         ensures item { result.item ≡ item }
         ensures payload { result.payload ≡ payload.now }
     {
@@ -49,7 +49,7 @@ impl Claim {
     pub fn item(&self) -> &Item
         ensures item { result.now ≡ self.now.item }
         ensures largest { item_size result.now ≤ LARGEST_PAYLOAD }
-        ensures types { item_type result.now < TYPE_COUNT }
+        ensures types { IsTypeBounded result.now }
     {
         &self.item
     }

@@ -1,6 +1,8 @@
-//! The deletion service as a program: a document comes in on standard input, and its lines go out.
+//! The deletion service as a program: a document comes in on standard input, its store stands on two files of the
+//! current folder, and its lines go out.
 #![tactic(auto)]
 
+use delf_disk::FileDisk;
 use delf_io::{StdSink, StdSource, SystemClock};
 use script_runner::{Status, run_plain};
 use std::alloc::{AllocError, Global};
@@ -13,14 +15,18 @@ fn main(rt: HostRuntime) -> ExitCode {
     let Ok(words) = read_words(&rt) else {
         return ExitCode::from(Status::OutOfMemory { done: 0 }.code());
     };
+    let Ok(rig) = FileDisk::at(&rt, rt.alloc(), ".") else {
+        return ExitCode::from(Status::OutOfMemory { done: 0 }.code());
+    };
     let mut source = StdSource::of(rt.stdin());
     let mut sink = StdSink::of(rt.stdout());
     let mut clock = SystemClock::of(&rt);
-    let status = run_plain(
+    let (status, _rig) = run_plain(
         rt.alloc(),
         words.as_slice(),
         &mut source,
         &mut sink,
+        rig,
         &mut clock,
     );
     ExitCode::from(status.code())

@@ -62,7 +62,7 @@ edge_there s from to key rest none =
     there s key (none_first (no_edge s key) (first_refusal rest)
     (none_rest (condemned s to) _ (none_rest (condemned s from) _ (none_rest (absent s to) _ (none_rest (absent s from) _ none)))))
 
-module _ (rules : RuleSet) (s : State) (objects : length rules.objects ≤ 64) (few : length rules.edges ≤ 64) where
+module _ (rules : RuleSet) (s : State) (objects : length rules.objects ≤ 64) where
   at_what : (given : List ℕ) (w what : What) → IsCallEntry s given w → w ≡ what → IsCallEntry s given what
   at_what given w what is same = subst (λ (x : What). IsCallEntry s given x) same is
 
@@ -92,12 +92,12 @@ module _ (rules : RuleSet) (s : State) (objects : length rules.objects ≤ 64) (
         no_item = refl;
         no_put = λ puts. cc (puts.2.1.0);
         rows = refl;
-        bounded = (omega (arith, within, few), small);
+        bounded = small;
         stands = tt;
       }) w.1
   by_call moment tag (call.Unlink edge from to name) what within is =
       let w = made (Unlink tag edge from to name) what (refused s moment (Unlink tag edge from to name)) is in
-      at_what [] _ what (record { size = refl; small = omega arith; no_item = refl; no_put = λ puts. cc (puts.2.1.0); rows = refl; bounded = omega (arith, within, few); stands = edge_there s from to (key_of edge from to) (job_taken_if (is_some (unlink_start s edge from to name)) s name ∷ []) w.0 }) w.1
+      at_what [] _ what (record { size = refl; small = omega arith; no_item = refl; no_put = λ puts. cc (puts.2.1.0); rows = refl; bounded = tt; stands = edge_there s from to (key_of edge from to) (job_taken_if (is_some (unlink_start s edge from to name)) s name ∷ []) w.0 }) w.1
   by_call moment tag (call.Delete id name) what within is =
       let w = made (Delete tag id name) what (refused s moment (Delete tag id name)) is in
       at_what [] _ what (record { size = refl; small = omega arith; no_item = refl; no_put = λ puts. cc (puts.2.1.0); rows = refl; bounded = tt; stands = tt }) w.1

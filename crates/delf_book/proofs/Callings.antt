@@ -21,9 +21,9 @@ module _ {G R : Type 0} (view book : Booked G R) (is : view ≡ book) (now seat 
   same_what : (other : What) → reply (state_in view) (moment_of (state_in view) now) seat asked ≡ Ok other → what ≡ other
   same_what other is = ok_is (reply (state_in view) (moment_of (state_in view) now) seat asked) what other (replied ∙ ap (λ (k : ℕ). reply (state_in view) k seat asked) m_is) is
 
-  pub entry_here : length view.rules.objects ≤ 64 → length view.rules.edges ≤ 64 → HasNumbers book.rules asked → IsCallEntry (state_in view) (given_by asked) what
-  entry_here objects few numbers =
-      call_entry view.rules (state_in view) objects few m seat asked what (subst (λ (b : Booked G R). HasNumbers b.rules asked) (sym is) numbers) (sym replied)
+  pub entry_here : length view.rules.objects ≤ 64 → HasNumbers book.rules asked → IsCallEntry (state_in view) (given_by asked) what
+  entry_here objects numbers =
+      call_entry view.rules (state_in view) objects m seat asked what (subst (λ (b : Booked G R). HasNumbers b.rules asked) (sym is) numbers) (sym replied)
 
   module _ (payload : List ℕ) (p_is : payload ≡ given_by asked) (new : R) where
     pub call_safe : (moment : R → ℕ) (may_leave : R → Areas → Type 0) (left_since : R → ℕ → Areas → Type 0) →

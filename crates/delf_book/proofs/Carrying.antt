@@ -24,12 +24,12 @@ use Rattle.delf_book.specs.Keeping.{KeepsCarriers, PutsBack}
 pub len_is : (rules : RuleSet) (h : List Entry) → (after rules h).len ≡ length h
 len_is rules h = let is : (after rules h).len ≡ 0 + length h = run-len (start rules) h in omega (arith, is)
 
-inside : (xs ys : List ℕ) (i : ℕ) (x : ℕ) → slice_get xs i ≡ Some x → slice_get (xs ++ ys) i ≡ Some x
+pub inside : (xs ys : List ℕ) (i : ℕ) (x : ℕ) → slice_get xs i ≡ Some x → slice_get (xs ++ ys) i ≡ Some x
 inside [] ys i x at = absurd (cc at)
 inside (y ∷ xs) ys zero x at = at
 inside (y ∷ xs) ys (suc i) x at = inside xs ys i x at
 
-behind : (xs : List ℕ) (x i : ℕ) → i ≡ length xs → slice_get (xs ++ x ∷ []) i ≡ Some x
+pub behind : (xs : List ℕ) (x i : ℕ) → i ≡ length xs → slice_get (xs ++ x ∷ []) i ≡ Some x
 behind [] x zero is = refl
 behind [] x (suc i) is = absurd (omega (arith, is))
 behind (y ∷ xs) x zero is = absurd (omega (arith, is))

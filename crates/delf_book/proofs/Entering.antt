@@ -2,6 +2,7 @@
 use Rattle.std.proofs.Common.{◌≡◌, ℕ, ◌+◌, ◌≤◌, Bool, true, List, [], ◌∷◌, ◌++◌, length, refl, sym, ap, ◌∙◌, subst, arith}
 use Rattle.std.proofs.lemmas.Bool.{and_parts}
 use Rattle.std.specs.Prelude.{IsTrue, nat_lt}
+use Rattle.entry_codec.specs.EntryHead.{IsEntry, AreEntries}
 use Rattle.delf_model.specs.declared.rows.EdgeKey.{EdgeKey}
 use Rattle.delf_model.specs.declared.entry.Entry.{Entry}
 use Rattle.delf_model.specs.declared.entry.What.{What}
@@ -34,6 +35,7 @@ pub keeps_blank : (rules : RuleSet) (h : List Entry) (table : Table) (stored : G
     stored ≡ empty_graph → ((edge : ℕ) → refs edge ≡ is_refcount rules edge) → KeepsState rules h table stored refs
 keeps_blank rules h table stored refs none is blank counts = subst (λ (l : List Entry). KeepsState rules l table stored refs) (sym none) (record {
   is_legal = refl;
+  spelled = tt;
   is_table = is;
   is_graph = record { graph = blank; rules = refl; counts = counts };
 })
@@ -45,6 +47,7 @@ keeps_spare rules h now table next stored refs keeps is now_is =
     subst (λ (l : List Entry). KeepsState rules l next stored refs) (sym now_is)
     (subst (λ (t : Table). KeepsState rules h t stored refs) (sym is) (record {
       is_legal = keeps.is_legal;
+      spelled = keeps.spelled;
       is_table = record {
         len = keeps.is_table.len;
         moment = keeps.is_table.moment;
@@ -85,13 +88,18 @@ can_change rules h table stored refs e objects edges change keeps legal ready is
     (subst (λ (c : Change). CanChange (after rules h).graph objects edges c) (sym is)
     (what_can (after rules h) objects edges e.moment e.what keeps.is_table.keeps.within (allowed_of (after rules h) e legal) ready))
 
+entries_push : (h : List Entry) (e : Entry) → AreEntries h → IsEntry e → AreEntries (h ++ e ∷ [])
+entries_push [] e are is = (is, tt)
+entries_push (x ∷ xs) e are is = (are.0, entries_push xs e are.1 is)
+
 -- what is kept with one entry more
 pub keeps_push : (rules : RuleSet) (h : List Entry) (table next : Table) (stored now : Graph) (refs later : ℕ → Bool) (e : Entry)
-    (change : Change) → KeepsState rules h table stored refs → is_legal (after rules h) e ≡ true →
+    (change : Change) → KeepsState rules h table stored refs → is_legal (after rules h) e ≡ true → IsEntry e →
     IsTableOf (step (after rules h) e) next → change ≡ change_of (after rules h) e.moment e.what → now ≡ changed stored change →
     later ≡ refs → KeepsState rules (h ++ e ∷ []) next now later
-keeps_push rules h table next stored now refs later e change keeps legal is_next is now_is later_is = record {
+keeps_push rules h table next stored now refs later e change keeps legal entry is_next is now_is later_is = record {
   is_legal = Legal_push rules h e keeps.is_legal legal;
+  spelled = entries_push h e keeps.spelled entry;
   is_table = subst (λ (s : State). IsTableOf s next) (sym (after_push rules h e)) is_next;
   is_graph = subst (λ (s : State). IsGraphOf s now later rules) (sym (after_push rules h e)) of_step;
 }

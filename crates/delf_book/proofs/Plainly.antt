@@ -79,7 +79,6 @@ pub keeps_same : (rules now_rules : RuleSet) (h now : List Entry) (spare ledger 
 keeps_same rules now_rules h now spare ledger now_ledger journal vault now_journal now_vault carriers now_carriers capacity now_capacity told honest seen images
     same_rules same journal_area journal_sizes vault_area vault_sizes same_carriers room kept =
     record {
-      few = subst (λ (r : RuleSet). length r.edges ≤ 64) (sym same_rules) kept.few;
       logs = at_ledger (λ (r : RuleSet) (l : List Entry). KeepsLogs r l now_journal now_vault) rules now_rules h now same_rules same
           (record {
             journal_area = journal_area ∙ kept.logs.journal_area;

@@ -71,8 +71,6 @@ PutsBack s what = (job i : ℕ) × ((logged : Logged) × ((what ≡ Put job i) �
 
 -- all of it, of a book that is up
 pub record KeepsUp (rules : RuleSet) (history : List Entry) (spare ledger : ℕ) (journal vault : LogView) (carriers : List ℕ) (capacity : ℕ) (told honest : Bool) (seen : Areas) (may_leave : Areas → Type 0) : Type 0 where
-  -- what a head can name
-  pub few : length rules.edges ≤ 64
   pub logs : KeepsLogs rules history journal vault
   pub carried : KeepsCarriers rules history carriers
   pub room : HasRoom spare ledger journal vault (length carriers) capacity

@@ -1,4 +1,5 @@
 use Rattle.std.specs.Prelude.{ℕ, Bool, List}
+use Rattle.entry_codec.specs.EntryHead.{AreEntries}
 use Rattle.delf_model.specs.declared.entry.Entry.{Entry}
 use Rattle.delf_model.specs.RuleSet.{RuleSet}
 use Rattle.delf_model.specs.Graph.{Graph}
@@ -6,8 +7,9 @@ use Rattle.delf_model.specs.State.{after}
 use Rattle.delf_model.specs.Legal.{Legal}
 use Rattle.job_table.specs.Table.{Table, IsTableOf, IsGraphOf}
 
--- the history is legal, and table and graph are those of the state after it
+-- the history is legal, each of its entries has a spelling, and table and graph are those of the state after it
 pub record KeepsState (rules : RuleSet) (history : List Entry) (table : Table) (stored : Graph) (refs : ℕ → Bool) : Type 0 where
   pub is_legal : Legal rules history
+  pub spelled : AreEntries history
   pub is_table : IsTableOf (after rules history) table
   pub is_graph : IsGraphOf (after rules history) stored refs rules

@@ -1,4 +1,4 @@
-use Rattle.std.specs.Prelude.{◌≡◌, ◌≤◌, ◌+◌, ℕ, Bool, true, ◌&&◌, nat_lt, List, [], ◌∷◌, ◌++◌, Option, Some, None, length, slice_get}
+use Rattle.std.specs.Prelude.{◌≡◌, ◌≤◌, ◌+◌, ℕ, Bool, true, cond, ◌&&◌, nat_lt, List, [], ◌∷◌, ◌++◌, Option, Some, None, length, slice_get, is_none}
 use Rattle.job_table.specs.Table.{item_at}
 use Rattle.delf_model.specs.declared.call.Cause.{Cause}
 use Rattle.delf_model.specs.declared.rows.Item.{Item}
@@ -11,7 +11,7 @@ use Rattle.delf_model.specs.declared.rows.EdgeKey.{EdgeKey}
 use Rattle.delf_model.specs.declared.rows.ObjectRow.{ObjectRow}
 use Rattle.delf_model.specs.RuleSet.{RuleSet}
 use Rattle.delf_model.specs.Graph.{Change, Same, PutsObject, TakesObject, RewritesObject, PutsEdge, TakesEdge, object_at}
-use Rattle.delf_model.specs.State.{State, after, owner, key_of, put_change, judged, size_of}
+use Rattle.delf_model.specs.State.{State, after, owner, key_of, put_change, judged, size_of, position_of}
 
 -- a book without its disk: rules and history, the stored graph, the steps that are held, and how many further entries
 -- and held steps need no memory but for what they put into the graph
@@ -106,3 +106,21 @@ record_size s (Cut job edge from to) = 0
 record_size s (Erase job id) = 0
 record_size s (Put job i) = size_of_put s (item_at s i)
 record_size s (Purge job) = 0
+
+-- the position of the payload that an entry puts back: a put whose row comes back, that of its item
+abbrev pub position_of_put : State → Option Item → Option ℕ
+position_of_put s None = None
+position_of_put s (Some it) = cond (is_none (judged s it)) (Some (position_of it)) None
+
+abbrev pub position_back : State → What → Option ℕ
+position_back s (Create tag kind id size) = None
+position_back s (Update tag id size) = None
+position_back s (Link tag edge from to size) = None
+position_back s (Unlink tag edge from to name) = None
+position_back s (Delete tag id name) = None
+position_back s (Restore tag job) = None
+position_back s (Expire id) = None
+position_back s (Cut job edge from to) = None
+position_back s (Erase job id) = None
+position_back s (Put job i) = position_of_put s (item_at s i)
+position_back s (Purge job) = None

@@ -1,7 +1,12 @@
 pub mod Books
+pub mod Dead
 pub mod Edits
 pub mod Keeping
 pub mod Keeps
 pub mod Ledgers
 pub mod Parts
+pub mod Reads
+pub mod Stepping
+pub mod Steps
+pub mod Taken
 pub mod Writing

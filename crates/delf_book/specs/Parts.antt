@@ -1,5 +1,6 @@
 use Rattle.std.specs.Prelude.{ℕ, List}
 use Rattle.delf_model.specs.declared.entry.Entry.{Entry}
+use Rattle.delf_model.specs.declared.entry.What.{What}
 
 -- a list with the number of further elements that need no memory
 pub record EntryPart : Type 0 where
@@ -10,3 +11,7 @@ pub record EntryPart : Type 0 where
 pub record Interrupted : Type 0 where
   pub entry : Entry
   pub payload : List ℕ
+
+-- what an entry says, without its moment
+abbrev pub what_of : Entry → What
+what_of entry = entry.what

@@ -1,9 +1,12 @@
-ghost use Rattle.std.specs.Prelude.{◌≡◌, length};
+ghost use Rattle.std.specs.Prelude.{◌≡◌, ◌≤◌, length, nat_eq, IfSome};
 ghost use Rattle.delf_disk.specs.declared.area.Order.TheVariants.{FailAfter};
 ghost use Rattle.delf_disk.specs.Areas.{Areas};
 ghost use Rattle.delf_disk.specs.Plain.{Plain, SameTelling, NextCount};
 ghost use Rattle.delf_disk.specs.Images.{Moves, Same};
-ghost use Rattle.delf_model.specs.Legal.{used, owed};
+ghost use Rattle.entry_codec.specs.EntryHead.{AreEntries, IsEntry};
+ghost use Rattle.delf_model.specs.Legal.{Legal, used, owed};
+ghost use Rattle.delf_model.specs.Sound.{Sound};
+ghost use Rattle.delf_model.specs.State.{owner as owner_of, find_job};
 ghost use Rattle.delf_model.specs.Report.{status as status_of, job_at as line_at, listed_at as listed_of};
 ghost use Rattle.job_table.specs.Table.{IsGraphOf, top_seat as greatest_seat};
 ghost use Rattle.delf_book.specs.Ledgers.{found};
@@ -14,6 +17,7 @@ use crate::ledger::Ledger;
 use crate::logs::Logs;
 use delf_disk::Rig;
 use delf_model::{GraphStore, Job, JobLine, JobName, Listed, ObjectId, ObjectRow, Rules, Status};
+use history_laws::legal_is_sound;
 use std::marker::Model;
 
 /// A history with the disk that holds it: each accepted call and each step is one entry more.
@@ -58,11 +62,31 @@ impl<G: GraphStore, R: Rig> Book<G, R> {
         self.ledger.graph()
     }
 
-    /// The length of the history.
+    /// The length of the history, which is a legal one, and sound.
     pub fn len(&self) -> u32
-        ensures { result ≡ length self.now.history }
+        ensures value { result ≡ length self.now.history }
+        ensures below { result ≤ 500000 }
+        ensures legal { Legal self.now.rules self.now.history }
+        ensures entries { AreEntries self.now.history }
+        ensures sound { Sound self.now.rules self.now.history }
+        // What stands beside it has a spelling too.
+        ensures beside { IfSome self.now.beside (λ it. IsEntry it.entry) }
     {
-        self.ledger.len()
+        legal_is_sound();
+        match &self.beside {
+            Some(beside) => {
+                let _spelled = beside.entry();
+                self.ledger.len()
+            }
+            None => self.ledger.len(),
+        }
+    }
+
+    /// Whether the history is blank.
+    pub fn is_empty(&self) -> bool
+        ensures { result ≡ nat_eq (length self.now.history) 0 }
+    {
+        self.ledger.is_empty()
     }
 
     /// Whether a disk fault was answered since the book was opened.
@@ -93,24 +117,44 @@ impl<G: GraphStore, R: Rig> Book<G, R> {
         self.ledger.get(id)
     }
 
+    /// The job that owns the object.
+    pub fn owner(&self, id: ObjectId) -> Option<Job>
+        ensures { result ≡ owner_of (state_in self.now) id }
+    {
+        self.ledger.owner(id)
+    }
+
+    /// The job that the name means: the latest one that has it.
+    pub fn find(&self, name: JobName) -> Option<Job>
+        ensures { result ≡ find_job (state_in self.now).jobs name }
+    {
+        self.ledger.find(name)
+    }
+
     /// The status of the job that the name means.
     pub fn status(&self, name: JobName) -> Status
-        ensures { result ≡ status_of (state_in self.now) name }
+        ensures value { result ≡ status_of (state_in self.now) name }
+        ensures sound { Sound self.now.rules self.now.history }
     {
+        let _len = self.len();
         self.ledger.status(name)
     }
 
     /// The line of the job at this place, by age.
     pub fn job_at(&self, i: u32) -> Option<JobLine>
-        ensures { result ≡ line_at (state_in self.now) i }
+        ensures value { result ≡ line_at (state_in self.now) i }
+        ensures sound { Sound self.now.rules self.now.history }
     {
+        let _len = self.len();
         self.ledger.job_at(i)
     }
 
     /// The listed item of the job at this place, by falling item number.
     pub fn listed_at(&self, job: Job, i: u32) -> Option<Listed>
-        ensures { result ≡ listed_of (state_in self.now) job i }
+        ensures value { result ≡ listed_of (state_in self.now) job i }
+        ensures sound { Sound self.now.rules self.now.history }
     {
+        let _len = self.len();
         self.ledger.listed_at(job, i)
     }
 

@@ -193,7 +193,7 @@ fn size_of(item: &Item) -> u16
 }
 
 /// Whether a put of this item puts its row back.
-fn is_put_back<G: GraphStore>(graph: &G, jobs: &JobTable, item: &Item) -> bool
+pub(crate) fn is_put_back<G: GraphStore>(graph: &G, jobs: &JobTable, item: &Item) -> bool
     ensures { (s : State) → IsTableOf s jobs.now → G.graph graph.now ≡ s.graph → result ≡ is_none (judged s item.now) }
 {
     match item {

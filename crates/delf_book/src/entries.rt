@@ -1,4 +1,5 @@
-ghost use Rattle.std.specs.Prelude.{◌≡◌, ◌+◌, ◌<◌, ◌≤◌, ◌++◌, ◌∷◌, [], OnOk};
+ghost use Rattle.std.specs.Prelude.{◌≡◌, ◌+◌, ◌<◌, ◌≤◌, ◌++◌, ◌∷◌, [], OnOk, slice_get, option_map};
+ghost use Rattle.delf_book.specs.Parts.{what_of};
 
 use delf_model::{Entry, What};
 use std::alloc::{AllocError, Global};
@@ -35,6 +36,16 @@ impl Entries {
     {
         self.entries.reserve(n as usize)?;
         Ok(())
+    }
+
+    /// What the entry at this position says.
+    pub(crate) fn what_at(&self, i: u32) -> Option<What>
+        ensures { result ≡ option_map what_of (slice_get self.now.list i) }
+    {
+        match self.entries.get(i as usize) {
+            Some(entry) => Some(entry.what),
+            None => None,
+        }
     }
 
     pub(crate) fn push(&mut self, entry: &Entry)

@@ -1,26 +1,40 @@
-ghost use Rattle.std.specs.Prelude.{◌≡◌, ◌&&◌, nat_eq, true, false, IfOk, OnErr, Ok};
-ghost use Rattle.delf_model.specs.Legal.{is_legal};
+ghost use Rattle.std.specs.Prelude.{◌≡◌, ◌≤◌, ◌&&◌, length, nat_eq, true, false, None, IfOk, OnErr, Ok};
+ghost use Rattle.delf_disk.specs.Plain.{Plain};
+ghost use Rattle.entry_codec.specs.EntryHead.{AreEntries};
+ghost use Rattle.delf_model.specs.Legal.{Legal, is_legal};
 ghost use Rattle.job_table.specs.Table.{IsGraphOf, item_at as item_of};
+ghost use Rattle.delf_book.specs.Keeping.{KeepsLogs, KeepsAreas};
 ghost use Rattle.delf_book.specs.Ledgers.{state_of, record_size, IsSame, HasEntered};
+ghost use Rattle.delf_book.specs.Reads.{TellsLive};
 
+use crate::book::Book;
+use crate::carried::{keeps, take};
 use crate::ledger::Ledger;
+use crate::logs::Logs;
+use delf_disk::{Area, Rig};
 use delf_model::{Entry, GraphStore, Item, Rules};
+use gate_log::GateLog;
 use std::alloc::AllocError;
 use std::marker::Model;
+use vault::Vault;
 
 /// A book without its disk that is made entry by entry, from records whose entries may not be legal. It is seen as a
 /// ledger.
 #[derive(Drop)]
 pub struct Fold<G: GraphStore> {
     pub(crate) ledger: Ledger<G>,
+    pub(crate) carriers: Vec<u32>,
 }
 
 impl<G: GraphStore> Model for Fold<G> {
+    ghost use Rattle.delf_book.specs.Keeping.{KeepsCarriers};
     ghost use Rattle.delf_book.specs.Ledgers.{Ledgered};
 
     ghost Value = { Ledgered G };
 
     ghost view = { λ f. f.ledger };
+
+    ghost invariant = { λ f. KeepsCarriers f.ledger.rules f.ledger.history f.carriers.items };
 }
 
 impl<G: GraphStore> Fold<G> {
@@ -36,9 +50,25 @@ impl<G: GraphStore> Fold<G> {
         if !self.ledger.fits(entry, size) {
             return Ok(false);
         }
-        self.ledger.make_ready(&entry.what)?;
-        self.ledger.enter(entry);
+        take(&mut self.ledger, &mut self.carriers, entry)?;
         Ok(true)
+    }
+
+    /// The length of the history.
+    pub fn len(&self) -> u32
+        ensures value { result ≡ length self.now.history }
+        ensures below { result ≤ 500000 }
+        ensures legal { Legal self.now.rules self.now.history }
+        ensures spelled { AreEntries self.now.history }
+    {
+        self.ledger.len()
+    }
+
+    /// Whether the history is blank.
+    pub fn is_empty(&self) -> bool
+        ensures { result ≡ nat_eq (length self.now.history) 0 }
+    {
+        self.ledger.is_empty()
     }
 
     /// The rules.
@@ -61,5 +91,39 @@ impl<G: GraphStore> Fold<G> {
         ensures { result ≡ item_of (state_of self.now) i }
     {
         self.ledger.item_at(i)
+    }
+
+    /// Whether record `i` of the area is the last carrier of a needed payload. Takes no memory, and looks up one row.
+    pub fn keeps(&self, area: Area, i: u32) -> bool
+        ensures { TellsLive (state_of self.now) area i result }
+    {
+        keeps(&self.ledger, &self.carriers, area, i)
+    }
+
+    /// An up book over these logs and this disk, with the history of the fold, and no room kept. Takes no memory.
+    pub fn into_book<R: Rig>(self, journal: GateLog, vault: Vault, rig: R) -> Book<G, R>
+        requires logs { KeepsLogs self.rules self.history journal vault }
+        requires areas { Plain (R.Disk.told rig) (R.Disk.honest rig)
+            → KeepsAreas self.rules self.history (R.Disk.seen rig) (R.Disk.may_leave rig) }
+        ensures rules { result.rules ≡ self.rules }
+        ensures history { result.history ≡ self.history }
+        ensures store { result.store ≡ self.store }
+        ensures up { result.down ≡ false }
+        ensures beside { result.beside ≡ None }
+        ensures rig { result.rig ≡ rig }
+    {
+        let Fold { ledger, carriers } = self;
+        Book {
+            ledger,
+            logs: Logs {
+                journal,
+                vault,
+                carriers,
+            },
+            spare: 0,
+            down: false,
+            beside: None,
+            rig,
+        }
     }
 }

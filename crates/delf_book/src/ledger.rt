@@ -1,23 +1,30 @@
-ghost use Rattle.std.specs.Prelude.{◌≡◌, ◌+◌, ◌*◌, ◌≤◌, ◌&&◌, ℕ, IfOk, length, nat_eq, [], true, OnOk, IsTrue};
+ghost use Rattle.std.specs.Prelude.{◌≡◌, ◌+◌, ◌*◌, ◌≤◌, ◌&&◌, ℕ, IfOk, drop, length, nat_eq, [], true, false, Some, None, OnOk, IsTrue, slice_get, option_map};
+ghost use Rattle.entry_codec.specs.EntryHead.{AreEntries};
 ghost use Rattle.delf_model.specs.declared.entry.What.{What};
 ghost use Rattle.delf_model.specs.RuleSet.{is_refcount};
 ghost use Rattle.delf_model.specs.Graph.{empty_graph};
-ghost use Rattle.delf_model.specs.State.{owner as owner_of, find_job};
+ghost use Rattle.delf_model.specs.State.{Logged, owner as owner_of, find_job, judged};
+ghost use Rattle.delf_model.specs.Payloads.{keeps_payload as keeps_payload_of};
 ghost use Rattle.delf_model.specs.Legal.{Legal, used, owed, is_legal, greatest_moment, reply};
 ghost use Rattle.delf_model.specs.Order.{first_step};
 ghost use Rattle.delf_model.specs.Report.{status as status_of, job_at as line_at, listed_at as listed_of, items_of};
 ghost use Rattle.delf_model.specs.Sound.{FirstIsLegal};
+ghost use Rattle.job_table.specs.Next.{IsSerial, IsFreeNext};
 ghost use Rattle.job_table.specs.Table.{IsTableOf, IsGraphOf, item_at as item_of, top_seat as greatest_seat};
-ghost use Rattle.delf_book.specs.Ledgers.{state_of, is_ready, is_numbered_call, record_size as record_size_of, found, IsSame, HasEntered};
+ghost use Rattle.job_table.specs.Unput.{next_unput as first_unput};
+ghost use Rattle.delf_book.specs.Parts.{what_of};
+ghost use Rattle.delf_book.specs.Ledgers.{position_back as position_back_of, state_of, is_ready, is_numbered_call, record_size as record_size_of, found, IsSame, HasEntered};
 
+use crate::backs::position_back;
 use crate::edit::{carry_out, edit_of, make_room, record_size};
 use crate::entries::Entries;
 use crate::legal::is_legal;
+use crate::spelling::spell;
 use delf_model::{
     Call, Entry, GraphStore, Item, Job, JobLine, JobName, Listed, Moment, ObjectId, ObjectRow,
     Refusal, Rules, Status, Tag, What,
 };
-use job_table::JobTable;
+use job_table::{JobTable, Next};
 use live_writes::judge;
 use order_laws::first_step_is_legal;
 use std::alloc::{AllocError, Global};
@@ -90,6 +97,7 @@ impl<G: GraphStore> Ledger<G> {
         ensures state { result ≡ (state_of self.now).len }
         ensures below { result ≤ 500000 }
         ensures legal { Legal self.now.rules self.now.history }
+        ensures spelled { AreEntries self.now.history }
     {
         self.jobs.len()
     }
@@ -169,6 +177,36 @@ impl<G: GraphStore> Ledger<G> {
         self.jobs().item_at(i)
     }
 
+    /// What the entry at this position says.
+    pub(crate) fn what_at(&self, i: u32) -> Option<What>
+        ensures { result ≡ option_map what_of (slice_get self.now.history i) }
+    {
+        self.history.what_at(i)
+    }
+
+    /// Whether the payload of the item with this number may still be put back: its job is not purged, and it was not put
+    /// back.
+    pub(crate) fn keeps_payload(&self, i: u32) -> bool
+        ensures item { (logged : Logged) → slice_get (state_of self.now).items i ≡ Some logged → result ≡ keeps_payload_of (state_of self.now).jobs logged }
+        ensures none { slice_get (state_of self.now).items i ≡ None → result ≡ false }
+    {
+        self.jobs().keeps_payload(i)
+    }
+
+    /// The position of the payload that an entry of this kind puts back.
+    pub(crate) fn position_back(&self, what: &What) -> Option<u32>
+        ensures { result ≡ position_back_of (state_of self.now) what.now }
+    {
+        position_back(&self.graph, &self.jobs, what)
+    }
+
+    /// The least number, from this one on, of an item of the job that was not put back.
+    pub(crate) fn next_unput(&self, job: Job, from: u32) -> Option<u32>
+        ensures { result ≡ first_unput job from (drop from (state_of self.now).items) }
+    {
+        self.jobs().next_unput(job, from)
+    }
+
     /// The number of items that the job logged.
     pub fn items(&self, job: Job) -> u32
         ensures { result ≡ items_of (state_of self.now) job }
@@ -190,6 +228,16 @@ impl<G: GraphStore> Ledger<G> {
     {
         first_step_is_legal();
         self.jobs.first(&self.graph, &self.rules, moment)
+    }
+
+    /// The step that comes next at this moment: where no step is held the first of the serial order, else a legal step
+    /// that is not held. `Idle` where no step is legal, `Held` where every legal step is held. Takes no memory.
+    pub fn next(&self, moment: Moment) -> Next
+        ensures serial { self.now.held ≡ [] → IsSerial (state_of self.now) moment result }
+        ensures free { (state_of self.now).moment ≤ moment → moment ≤ greatest_moment → IsFreeNext (state_of self.now) moment self.now.held result }
+    {
+        first_step_is_legal();
+        self.jobs.next(&self.graph, &self.rules, moment)
     }
 
     /// What a call of the seat is answered at this moment: what its entry is, or the first refusal that holds. Takes no
@@ -264,6 +312,7 @@ impl<G: GraphStore> Ledger<G> {
         requires ready { IsTrue (is_ready (G.is_ready_object self.old.store) (G.is_ready_edge self.old.store) self.old entry.now.what) }
         ensures { HasEntered self.old self.new entry.now }
     {
+        spell(&self.rules, entry);
         let edit = edit_of(&self.graph, &self.jobs, &self.rules, entry);
         self.jobs.apply(&self.graph, &self.rules, entry);
         self.history.push(entry);

@@ -3,24 +3,38 @@
 
 mod adding;
 mod answers;
+mod backs;
 mod beside;
 mod blank;
 mod book;
 mod call;
 mod calls;
+mod carried;
 mod dead;
+#[cfg(test)]
+mod drive;
 mod edit;
 mod entries;
+mod erasing;
 mod faults;
 mod folds;
 mod ledger;
 mod legal;
 mod logs;
+mod purging;
+mod putting;
+mod reading;
+mod reads;
 mod ready;
 mod receipts;
 mod records;
 mod settle;
+mod spelling;
+mod stepping;
 mod tails;
+#[cfg(test)]
+mod tests;
+mod work;
 
 pub use answers::{BookFault, Receipt, StepFault, Worked};
 pub use beside::Beside;

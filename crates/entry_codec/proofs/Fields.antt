@@ -5,7 +5,7 @@ use Rattle.std.proofs.lemmas.Bool.{cases_lt, ltb-true, ltb-false, leb-true, le-l
 use Rattle.std.proofs.Common.{eq-eqb}
 use Rattle.std.proofs.lemmas.List.{take_at, drop_at, take-append-drop, length-append, length-take, get_or-drop, get_or-take, get_or_past}
 use Rattle.std.proofs.lemmas.Nat.{be_bytes_4, be_bytes_8, from_be_bytes-to_be_bytes_4, from_be_bytes-to_be_bytes_8}
-use Rattle.entry_codec.specs.Field.{Sort, Kind, TypeNumber, Word, Moment, Id, Due, width_of, IsNumber, Field, spelled, AreFields}
+use Rattle.entry_codec.specs.Field.{Sort, Kind, TypeNumber, EdgeNumber, Word, Moment, Id, Due, width_of, IsNumber, Field, spelled, AreFields}
 use Rattle.entry_codec.specs.Reading.{◌>>=◌, is_number, checked, number_at, fields_at}
 
 abbrev pub IsBytes : List ℕ → Type 0
@@ -83,6 +83,7 @@ wide64 = record {
 abbrev pub limit_of : Sort → ℕ
 limit_of Kind = 2 ^ 8
 limit_of TypeNumber = 2 ^ 8
+limit_of EdgeNumber = 2 ^ 8
 limit_of Word = 2 ^ 32
 limit_of Moment = 2 ^ 64
 limit_of Id = 2 ^ 64
@@ -91,6 +92,7 @@ limit_of Due = 2 ^ 64
 wide : (s : Sort) → IsWide (width_of s) (limit_of s)
 wide Kind = wide8
 wide TypeNumber = wide8
+wide EdgeNumber = wide8
 wide Word = wide32
 wide Moment = wide64
 wide Id = wide64
@@ -99,6 +101,7 @@ wide Due = wide64
 is_number-true : (s : Sort) (n : ℕ) → n < limit_of s → is_number s n ≡ true → IsNumber s n
 is_number-true Kind n lt e = lt
 is_number-true TypeNumber n lt e = ltb-true _ _ e
+is_number-true EdgeNumber n lt e = lt
 is_number-true Word n lt e = lt
 is_number-true Moment n lt e = leb-true _ _ e
 is_number-true Id n lt e = let both = and_parts _ _ e in (ltb-true _ _ both.0, leb-true _ _ both.1)
@@ -107,6 +110,7 @@ is_number-true Due n lt e = lt
 IsNumber-test : (s : Sort) (n : ℕ) → IsNumber s n → is_number s n ≡ true
 IsNumber-test Kind n h = refl
 IsNumber-test TypeNumber n h = lt-ltb _ _ h
+IsNumber-test EdgeNumber n h = refl
 IsNumber-test Word n h = refl
 IsNumber-test Moment n h = le-leb _ _ h
 IsNumber-test Id n h = and_from _ _ (lt-ltb _ _ h.0) (le-leb _ _ h.1)
@@ -115,6 +119,7 @@ IsNumber-test Due n h = refl
 IsNumber-below : (s : Sort) (n : ℕ) → IsNumber s n → n < limit_of s
 IsNumber-below Kind n h = h
 IsNumber-below TypeNumber n h = omega arith
+IsNumber-below EdgeNumber n h = h
 IsNumber-below Word n h = h
 IsNumber-below Moment n h = omega arith
 IsNumber-below Id n h = omega (arith, h.1)

@@ -4,7 +4,7 @@ use Rattle.delf_model.specs.declared.entry.Entry.{Entry}
 use Rattle.delf_model.specs.declared.entry.What.{What}
 use Rattle.delf_model.specs.declared.entry.What.TheVariants.{Create, Update, Link, Unlink, Delete, Restore, Expire, Cut, Erase, Put, Purge}
 use Rattle.entry_codec.specs.declared.limits.TheConstants.{TYPE_COUNT, LARGEST_PAYLOAD}
-use Rattle.entry_codec.specs.Field.{Field, kind, type_number, word, moment, object_id, spelled, AreFields}
+use Rattle.entry_codec.specs.Field.{Field, kind, type_number, edge_number, word, moment, object_id, spelled, AreFields}
 
 abbrev pub entry_kind : What → ℕ
 entry_kind (Create tag type id size) = 1
@@ -24,13 +24,13 @@ abbrev pub what_fields : What → List Field
 what_fields (Create tag type id size) = word tag.seat ∷ word tag.k ∷ type_number type ∷ object_id id ∷ []
 what_fields (Update tag id size) = word tag.seat ∷ word tag.k ∷ object_id id ∷ []
 what_fields (Link tag edge from to size) =
-    word tag.seat ∷ word tag.k ∷ type_number edge ∷ object_id from ∷ object_id to ∷ []
+    word tag.seat ∷ word tag.k ∷ edge_number edge ∷ object_id from ∷ object_id to ∷ []
 what_fields (Unlink tag edge from to name) =
-    word tag.seat ∷ word tag.k ∷ type_number edge ∷ object_id from ∷ object_id to ∷ word name ∷ []
+    word tag.seat ∷ word tag.k ∷ edge_number edge ∷ object_id from ∷ object_id to ∷ word name ∷ []
 what_fields (Delete tag id name) = word tag.seat ∷ word tag.k ∷ object_id id ∷ word name ∷ []
 what_fields (Restore tag job) = word tag.seat ∷ word tag.k ∷ word job ∷ []
 what_fields (Expire id) = object_id id ∷ []
-what_fields (Cut job edge from to) = word job ∷ type_number edge ∷ object_id from ∷ object_id to ∷ []
+what_fields (Cut job edge from to) = word job ∷ edge_number edge ∷ object_id from ∷ object_id to ∷ []
 what_fields (Erase job id) = word job ∷ object_id id ∷ []
 what_fields (Put job item) = word job ∷ word item ∷ []
 what_fields (Purge job) = word job ∷ []
@@ -75,16 +75,21 @@ pub record IsEntry (e : Entry) : Type 0 where
   pub fields : AreFields (entry_fields e)
   pub size : named_size e.what ≤ LARGEST_PAYLOAD
 
--- type numbers and sizes within their bounds, which the types themselves do not keep
+-- entries that have a spelling: each number is one that its field may hold
+abbrev pub AreEntries : List Entry → Type 0
+AreEntries [] = Unit {0}
+AreEntries (e ∷ es) = IsEntry e × AreEntries es
+
+-- numbers of object types and sizes within their bounds, which the types themselves do not keep
 abbrev pub IsBounded : What → Type 0
 IsBounded (Create tag type id size) = (type < TYPE_COUNT) × (size ≤ LARGEST_PAYLOAD)
 IsBounded (Update tag id size) = size ≤ LARGEST_PAYLOAD
-IsBounded (Link tag edge from to size) = (edge < TYPE_COUNT) × (size ≤ LARGEST_PAYLOAD)
-IsBounded (Unlink tag edge from to name) = edge < TYPE_COUNT
+IsBounded (Link tag edge from to size) = size ≤ LARGEST_PAYLOAD
+IsBounded (Unlink tag edge from to name) = Unit {0}
 IsBounded (Delete tag id name) = Unit {0}
 IsBounded (Restore tag job) = Unit {0}
 IsBounded (Expire id) = Unit {0}
-IsBounded (Cut job edge from to) = edge < TYPE_COUNT
+IsBounded (Cut job edge from to) = Unit {0}
 IsBounded (Erase job id) = Unit {0}
 IsBounded (Put job item) = Unit {0}
 IsBounded (Purge job) = Unit {0}

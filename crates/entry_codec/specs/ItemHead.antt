@@ -1,9 +1,9 @@
 -- The head of an erased item: its kind, the fields of that kind, and the digest of its payload.
-use Rattle.std.specs.Prelude.{◌≡◌, ℕ, ◌≤◌, List, [], ◌∷◌, ◌++◌, length}
+use Rattle.std.specs.Prelude.{◌≡◌, ℕ, ◌<◌, ◌≤◌, List, [], ◌∷◌, ◌++◌, length}
 use Rattle.delf_model.specs.declared.rows.Item.{Item}
 use Rattle.delf_model.specs.declared.rows.Item.TheVariants.{Object, Edge}
-use Rattle.entry_codec.specs.declared.limits.TheConstants.{LARGEST_PAYLOAD}
-use Rattle.entry_codec.specs.Field.{Field, kind, type_number, word, object_id, due, spelled, AreFields}
+use Rattle.entry_codec.specs.declared.limits.TheConstants.{TYPE_COUNT, LARGEST_PAYLOAD}
+use Rattle.entry_codec.specs.Field.{Field, kind, type_number, edge_number, word, object_id, due, spelled, AreFields}
 
 abbrev pub item_kind : Item → ℕ
 item_kind (Object job row) = 1
@@ -14,7 +14,7 @@ abbrev pub row_fields : Item → List Field
 row_fields (Object job row) =
     word job ∷ object_id row.id ∷ type_number row.kind ∷ word row.birth ∷ due row.due ∷ word row.at ∷ []
 row_fields (Edge job row from_birth to_birth) =
-    word job ∷ type_number row.key.edge ∷ object_id row.key.from ∷ object_id row.key.to ∷ word row.birth ∷ word from_birth ∷ word to_birth ∷ []
+    word job ∷ edge_number row.key.edge ∷ object_id row.key.from ∷ object_id row.key.to ∷ word row.birth ∷ word from_birth ∷ word to_birth ∷ []
 
 abbrev pub item_fields : Item → List Field
 item_fields i = kind (item_kind i) ∷ row_fields i
@@ -28,9 +28,10 @@ abbrev pub item_size : Item → ℕ
 item_size (Object job row) = row.size
 item_size (Edge job row from_birth to_birth) = row.size
 
-abbrev pub item_type : Item → ℕ
-item_type (Object job row) = row.kind
-item_type (Edge job row from_birth to_birth) = row.key.edge
+-- the number of the type of an object within its bound, which the type itself does not keep
+abbrev pub IsTypeBounded : Item → Type 0
+IsTypeBounded (Object job row) = row.kind < TYPE_COUNT
+IsTypeBounded (Edge job row from_birth to_birth) = Unit {0}
 
 -- an item that has a spelling: each field holds a number that it may hold, and the payload is not too large
 pub record IsItem (i : Item) : Type 0 where

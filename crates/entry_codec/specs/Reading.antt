@@ -5,7 +5,7 @@ use Rattle.delf_model.specs.declared.entry.Entry.{Entry}
 use Rattle.delf_model.specs.declared.entry.What.{What}
 use Rattle.delf_model.specs.declared.rows.Item.{Item}
 use Rattle.entry_codec.specs.declared.limits.TheConstants.{LAST_MOMENT, LAST_ID, TYPE_COUNT}
-use Rattle.entry_codec.specs.Field.{Sort, Kind, TypeNumber, Word, Moment, Id, Due, width_of, Field}
+use Rattle.entry_codec.specs.Field.{Sort, Kind, TypeNumber, EdgeNumber, Word, Moment, Id, Due, width_of, Field}
 use Rattle.entry_codec.specs.EntryHead.{entry_kind, what_fields, HasPayload, IsWhatHead, IsEntryHead}
 use Rattle.entry_codec.specs.ItemHead.{item_kind, row_fields, item_size, IsRowHead, IsItemHead}
 
@@ -23,6 +23,7 @@ Gives view None read = read ≡ None
 abbrev pub is_number : Sort → ℕ → Bool
 is_number Kind n = true
 is_number TypeNumber n = nat_lt n TYPE_COUNT
+is_number EdgeNumber n = true
 is_number Word n = true
 is_number Moment n = nat_le n LAST_MOMENT
 is_number Id n = nat_lt 0 n && nat_le n LAST_ID
@@ -51,12 +52,12 @@ entry_sorts kind = get_or (
     []
     ∷ (Word ∷ Word ∷ TypeNumber ∷ Id ∷ [])
     ∷ (Word ∷ Word ∷ Id ∷ [])
-    ∷ (Word ∷ Word ∷ TypeNumber ∷ Id ∷ Id ∷ [])
-    ∷ (Word ∷ Word ∷ TypeNumber ∷ Id ∷ Id ∷ Word ∷ [])
+    ∷ (Word ∷ Word ∷ EdgeNumber ∷ Id ∷ Id ∷ [])
+    ∷ (Word ∷ Word ∷ EdgeNumber ∷ Id ∷ Id ∷ Word ∷ [])
     ∷ (Word ∷ Word ∷ Id ∷ Word ∷ [])
     ∷ (Word ∷ Word ∷ Word ∷ [])
     ∷ (Id ∷ [])
-    ∷ (Word ∷ TypeNumber ∷ Id ∷ Id ∷ [])
+    ∷ (Word ∷ EdgeNumber ∷ Id ∷ Id ∷ [])
     ∷ (Word ∷ Id ∷ [])
     ∷ (Word ∷ Word ∷ [])
     ∷ (Word ∷ [])
@@ -66,7 +67,7 @@ abbrev pub item_sorts : ℕ → List Sort
 item_sorts kind = get_or (
     []
     ∷ (Word ∷ Id ∷ TypeNumber ∷ Word ∷ Due ∷ Word ∷ [])
-    ∷ (Word ∷ TypeNumber ∷ Id ∷ Id ∷ Word ∷ Word ∷ Word ∷ [])
+    ∷ (Word ∷ EdgeNumber ∷ Id ∷ Id ∷ Word ∷ Word ∷ Word ∷ [])
     ∷ []) kind []
 
 -- the fields alone

@@ -6,7 +6,7 @@ ghost use Rattle.delf_model.specs.declared.entry.What.{What};
 ghost use Rattle.entry_codec.specs.EntryHead.{IsEntryHead};
 ghost use Rattle.entry_codec.specs.Reading.{ReadsWhat, IsWhatRead, IsEntryRead};
 
-use crate::field_reader::{byte_at, id_at, moment_at, type_at, word_at};
+use crate::field_reader::{byte_at, edge_at, id_at, moment_at, type_at, word_at};
 use crate::limits::LARGEST_PAYLOAD;
 use delf_model::{EdgeNo, Entry, Job, Tag, TypeNo, What};
 
@@ -56,7 +56,7 @@ fn link(rest: &[u8], size: u16) -> Option<What>
 {
     let (seat, rest) = word_at(rest)?;
     let (k, rest) = word_at(rest)?;
-    let (edge, rest) = type_at(rest)?;
+    let (edge, rest) = edge_at(rest)?;
     let Some((from, rest)) = id_at(rest) else {
         return None;
     };
@@ -81,7 +81,7 @@ fn unlink(rest: &[u8]) -> Option<What>
 {
     let (seat, rest) = word_at(rest)?;
     let (k, rest) = word_at(rest)?;
-    let (edge, rest) = type_at(rest)?;
+    let (edge, rest) = edge_at(rest)?;
     let Some((from, rest)) = id_at(rest) else {
         return None;
     };
@@ -155,7 +155,7 @@ fn cut(rest: &[u8]) -> Option<What>
     ensures { ReadsWhat 8 rest.now 0 result }
 {
     let (job, rest) = word_at(rest)?;
-    let (edge, rest) = type_at(rest)?;
+    let (edge, rest) = edge_at(rest)?;
     let Some((from, rest)) = id_at(rest) else {
         return None;
     };
@@ -264,7 +264,7 @@ fn entry_at(head: &[u8], size: u64) -> Option<Entry>
 
 /// The entry that has this head, with a payload of this size. None where no entry has it: the head is not of
 /// the length of its kind, the moment is above 999,999,999,999, an id is not 1 to 999,999,999,999, the number
-/// of a type is not below 64, or the payload has more than 512 bytes or stands where the kind has none.
+/// of an object type is not below 64, or the payload has more than 512 bytes or stands where the kind has none.
 pub fn read_entry(head: &[u8], size: u64) -> Option<Entry>
     ensures found { IfSome result (λ entry. IsEntryHead entry head.now size) }
     ensures only { (entry : Entry) → IsEntryHead entry head.now size → result ≡ Some entry }

@@ -1,7 +1,7 @@
 //! Each reader answers the field at the front and the bytes after it, or None where no such field is there.
 
 ghost use Rattle.std.specs.Prelude.{ℕ, List};
-ghost use Rattle.entry_codec.specs.Field.{Kind, TypeNumber, Word, Moment, Id, Due};
+ghost use Rattle.entry_codec.specs.Field.{Kind, TypeNumber, EdgeNumber, Word, Moment, Id, Due};
 ghost use Rattle.entry_codec.specs.Reading.{Gives, number_at, checked};
 
 use crate::limits::{LAST_MOMENT, TYPE_COUNT};
@@ -53,6 +53,13 @@ pub fn type_at(bytes: &[u8]) -> Option<(u8, &[u8])>
         return None;
     }
     Some((number, rest))
+}
+
+#[tactic(auto, unfolding(crate::specs::Reading::number_at))]
+pub fn edge_at(bytes: &[u8]) -> Option<(u8, &[u8])>
+    ensures { Gives (λ x. (x.0, x.1.now)) result (number_at EdgeNumber bytes.now) }
+{
+    byte_at(bytes)
 }
 
 #[tactic(auto, unfolding(crate::specs::Reading::number_at))]

@@ -5,7 +5,7 @@ ghost use Rattle.delf_model.specs.declared.rows.Item.{Item};
 ghost use Rattle.entry_codec.specs.ItemHead.{IsItemHead};
 ghost use Rattle.entry_codec.specs.Reading.{Gives, ReadsRow, IsRowRead, IsItemRead};
 
-use crate::field_reader::{byte_at, due_at, id_at, type_at, word_at};
+use crate::field_reader::{byte_at, due_at, edge_at, id_at, type_at, word_at};
 use crate::limits::LARGEST_PAYLOAD;
 use delf_model::{EdgeKey, EdgeNo, EdgeRow, Item, Job, ObjectRow, TypeNo};
 
@@ -50,7 +50,7 @@ fn edge(rest: &[u8], size: u16) -> Option<(Item, [u8; 32])>
     ensures { ReadsRow 2 rest.now size result }
 {
     let (job, rest) = word_at(rest)?;
-    let (edge, rest) = type_at(rest)?;
+    let (edge, rest) = edge_at(rest)?;
     let Some((from, rest)) = id_at(rest) else {
         return None;
     };
@@ -97,7 +97,7 @@ fn item_at(head: &[u8], size: u64) -> Option<(Item, [u8; 32])>
 }
 
 /// The item and the digest that have this head, with a payload of this size. None where no item has it: the
-/// head is not of the length of its kind, an id is not 1 to 999,999,999,999, the number of a type is not below
+/// head is not of the length of its kind, an id is not 1 to 999,999,999,999, the number of an object type is not below
 /// 64, or the payload has more than 512 bytes. That the digest is that of the payload is not looked at.
 pub fn read_item(head: &[u8], size: u64) -> Option<(Item, [u8; 32])>
     ensures found { IfSome result (λ found. IsItemHead found.0 found.1 head.now size) }

@@ -1,15 +1,15 @@
-ghost use Rattle.std.specs.Prelude.{◌≡◌, ◌+◌, ◌<◌, ◌≤◌, ◌++◌, length, take};
+ghost use Rattle.std.specs.Prelude.{◌≡◌, ◌+◌, ◌≤◌, ◌++◌, length, take};
 ghost use Rattle.entry_codec.specs.Field.{spelled, AreFields};
-ghost use Rattle.entry_codec.specs.ItemHead.{item_kind, row_fields, item_head, item_size, item_type, IsItem};
+ghost use Rattle.entry_codec.specs.ItemHead.{item_kind, row_fields, item_head, item_size, IsTypeBounded, IsItem};
 
 use crate::field_writer::{put_byte, put_ends, put_id, put_long, put_word};
-use crate::limits::{LARGEST_PAYLOAD, TYPE_COUNT};
+use crate::limits::LARGEST_PAYLOAD;
 use delf_model::Item;
 
 /// Puts the fields between the kind and the digest, and answers the place after them.
 fn put_row(out: &mut [u8], at: usize, item: &Item) -> usize
     requires room { at + 33 ≤ length out.old }
-    requires types { item_type item.now < TYPE_COUNT }
+    requires types { IsTypeBounded item.now }
     ensures next { result ≡ at + length (spelled (row_fields item.now)) }
     ensures bytes { take result out.new ≡ take at out.old ++ spelled (row_fields item.now) }
     ensures fields { AreFields (row_fields item.now) }
@@ -60,7 +60,7 @@ fn kind_of(item: &Item) -> u8
 /// Writes the head of the item to the front of `out`, with the SHA-256 of its payload, and answers its length
 /// in bytes, which is at most 66. What stands behind it in `out` is left open.
 pub fn write_item(item: &Item, digest: &[u8; 32], out: &mut [u8; 128]) -> u16
-    requires types { item_type item.now < TYPE_COUNT }
+    requires types { IsTypeBounded item.now }
     requires size { item_size item.now ≤ LARGEST_PAYLOAD }
     ensures length { result ≡ length (item_head item.now digest.now) }
     ensures head { take result out.new ≡ item_head item.now digest.now }

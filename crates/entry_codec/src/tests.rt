@@ -1,6 +1,6 @@
 ghost use Rattle.std.specs.Prelude.{◌<◌, ◌≤◌, ◌^◌};
 ghost use Rattle.entry_codec.specs.EntryHead.{IsBounded};
-ghost use Rattle.entry_codec.specs.ItemHead.{item_size, item_type};
+ghost use Rattle.entry_codec.specs.ItemHead.{item_size, IsTypeBounded};
 
 use super::*;
 use delf_model::{
@@ -44,6 +44,26 @@ fn spells_the_first_entry(rt: HostRuntime) {
 }
 
 #[test]
+fn spells_the_last_edge_type(rt: HostRuntime) {
+    let what = What::Link {
+        tag: Tag { seat: 0, k: 1 },
+        edge: EdgeNo(255),
+        from: id(&rt, 1),
+        to: id(&rt, 2),
+        size: 0,
+    };
+    let entry = Entry { moment: 0, what };
+    let mut out = [0xff; 128];
+    let len = write_entry(&entry, &mut out) as usize;
+    let head = [
+        0, 0, 0, 0, 0, 0, 0, 0, 3, 0, 0, 0, 0, 0, 0, 0, 1, 255, 0, 0, 0, 0, 0, 0, 0, 1, 0, 0, 0, 0,
+        0, 0, 0, 2,
+    ];
+    assert_eq!(rt; out[..len], head[..]);
+    reads_back(&rt, &entry, 0);
+}
+
+#[test]
 fn reads_each_kind_back(rt: HostRuntime) {
     let low = id(&rt, 1);
     let high = id(&rt, 999_999_999_999);
@@ -51,7 +71,7 @@ fn reads_each_kind_back(rt: HostRuntime) {
         seat: u32::MAX,
         k: 7,
     };
-    let edge = EdgeNo(63);
+    let edge = EdgeNo(255);
     let job = Job(u32::MAX);
     let moment = 999_999_999_999;
     let kind = TypeNo(63);
@@ -134,7 +154,7 @@ fn refuses_what_is_out_of_bounds(rt: HostRuntime) {
 }
 
 #[test]
-fn refuses_types_from_64_on(rt: HostRuntime) {
+fn refuses_object_types_from_64_on(rt: HostRuntime) {
     for (kind, number, found) in [(1, 63, true), (1, 64, false), (1, 255, false)] {
         let mut head = [0; 26];
         head[8] = kind;
@@ -146,7 +166,7 @@ fn refuses_types_from_64_on(rt: HostRuntime) {
 
 /// The item is read from its head as it was written, and not from a byte less or more, nor with another payload.
 fn reads_item_back(rt: &impl Abort, item: &Item, digest: &[u8; 32], size: u64)
-    requires types { item_type item.now < TYPE_COUNT }
+    requires types { IsTypeBounded item.now }
     requires size { item_size item.now ≤ LARGEST_PAYLOAD }
     requires payload { size < 2 ^ 16 }
 {
@@ -165,7 +185,7 @@ fn reads_item_back(rt: &impl Abort, item: &Item, digest: &[u8; 32], size: u64)
 
 /// The head of the item is these bytes and the digest.
 fn spells_item(rt: &impl Abort, item: &Item, digest: &[u8; 32], fields: &[u8])
-    requires types { item_type item.now < TYPE_COUNT }
+    requires types { IsTypeBounded item.now }
     requires size { item_size item.now ≤ LARGEST_PAYLOAD }
 {
     let mut out = [0xff; 128];

@@ -8,3 +8,4 @@ mod Parts
 mod Scrubbing
 mod Closing
 pub mod Uniqueness
+mod Fronts

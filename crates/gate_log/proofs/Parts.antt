@@ -101,7 +101,7 @@ pub part_read : (front part back bytes : List ℕ) (at n : ℕ) → bytes ≡ fr
 part_read front part back bytes at n is place size =
     ap (λ (l : List ℕ). take n (drop at l)) is ∙ ap (λ (l : List ℕ). take n l) (drop_at front (part ++ back) at place) ∙ take_at part back n size
 
-regroup : (mark before part after end : List ℕ) → mark ++ (before ++ (part ++ after)) ++ end ≡ (mark ++ before) ++ (part ++ (after ++ end))
+pub regroup : (mark before part after end : List ℕ) → mark ++ (before ++ (part ++ after)) ++ end ≡ (mark ++ before) ++ (part ++ (after ++ end))
 regroup mark before part after end =
     append_assoc mark (before ++ (part ++ after)) end
     ∙ ap (λ (l : List ℕ). mark ++ l) (append_assoc before (part ++ after) end ∙ ap (λ (l : List ℕ). before ++ l) (append_assoc part after end))

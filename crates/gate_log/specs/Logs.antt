@@ -25,6 +25,21 @@ pub record Stands (area : Area) (sizes : List (ℕ × ℕ)) (areas : Areas) : Ty
 abbrev pub StandIn : Area → List (ℕ × ℕ) → (Areas → Type 0) → Type 0
 StandIn area sizes images = (c : Areas) → images c → Stands area sizes c
 
+-- the mark, these records, one more gate, and whatever stands behind it
+pub record Front (mark : List ℕ) (records : List Record) (bytes : List ℕ) : Type 0 where
+  pub eight : length mark ≡ 8
+  pub bounded : AreBounded records
+  pub gate : ℕ
+  pub rest : List ℕ
+  pub split : bytes ≡ mark ++ spelled records ++ gate ∷ rest
+
+-- some records of these sizes stand at the front of the area
+pub record Fronts (area : Area) (sizes : List (ℕ × ℕ)) (areas : Areas) : Type 0 where
+  pub mark : List ℕ
+  pub records : List Record
+  pub sized : map size_of records ≡ sizes
+  pub front : Front mark records (area_of area areas)
+
 -- the area stands for these records now, with the closed gate and the tail that it had
 pub record Keeps {mark : List ℕ} {records : List Record} {bytes : List ℕ} (log : Log mark records bytes) (after : List Record) (new : List ℕ) : Type 0 where
   pub log_now : Log mark after new

@@ -1,14 +1,15 @@
 -- What one step of a scan finds.
-use Rattle.std.specs.Prelude.{◌≡◌, ◌≢◌, ◌⊎◌, ℕ, ◌+◌, ◌^◌, ◌<◌, ◌≤◌, List, ◌∷◌, length, slice_index, map, take, drop, Option, Some, None, Result, Ok, Err}
+use Rattle.std.specs.Prelude.{◌≡◌, ◌≢◌, ◌⊎◌, ℕ, Bool, true, false, ◌+◌, ◌^◌, ◌<◌, ◌≤◌, List, ◌∷◌, length, slice_index, map, take, drop, Option, Some, None, Result, Ok, Err}
 use Rattle.std.specs.Int.{w16, w32, from_be_bytes}
 use Rattle.gate_log.specs.declared.fault.LogFault.{LogFault}
 use Rattle.gate_log.specs.declared.fault.LogFault.TheVariants.{Failed, NotOurs, Broken, OutOfMemory}
 use Rattle.gate_log.specs.declared.lengths.Lengths.{Lengths}
+use Rattle.gate_log.specs.declared.scan.Place.{Place}
 use Rattle.gate_log.specs.declared.scan.Scan.{Scan}
 use Rattle.gate_log.specs.Records.{Record, size_of}
 use Rattle.gate_log.specs.Logs.{Log}
 use Rattle.gate_log.specs.Places.{sizes_at}
-use Rattle.gate_log.specs.Opening.{Fits, IsUnfit, IsForeign, IsBroken}
+use Rattle.gate_log.specs.Opening.{Fits, IsUnfit, IsForeign, IsBroken, BreaksOff}
 
 -- the two lengths that six bytes tell, of a record that is to end, with its gate, within so many bytes
 pub record Told (start : List ℕ) (room : ℕ) (lengths : Lengths) : Type 0 where
@@ -62,3 +63,15 @@ Scanned mark bytes (Err (Broken at)) = IsBroken mark bytes at
 Scanned mark bytes (Err NotOurs) = IsForeign mark bytes
 Scanned mark bytes (Err Failed) = Unit {0}
 Scanned mark bytes (Err OutOfMemory) = Unit {0}
+
+-- the records up to the first gate that is closed, or behind which there is no record
+abbrev pub Reached : Bool → List ℕ → List ℕ → List Place → Type 0
+Reached true mark bytes places = (records : List Record) × (map size_of records ≡ sizes_at places) × Log mark records bytes
+Reached false mark bytes places = BreaksOff mark (sizes_at places) bytes
+
+abbrev pub ScannedFront : List ℕ → List ℕ → Result Scan LogFault → Type 0
+ScannedFront mark bytes (Ok scan) = Reached scan.whole mark bytes scan.places.items
+ScannedFront mark bytes (Err (Broken at)) = ⊥
+ScannedFront mark bytes (Err NotOurs) = IsForeign mark bytes
+ScannedFront mark bytes (Err Failed) = Unit {0}
+ScannedFront mark bytes (Err OutOfMemory) = Unit {0}

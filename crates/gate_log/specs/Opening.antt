@@ -34,6 +34,16 @@ pub record IsBroken (mark bytes : List ℕ) (at : ℕ) : Type 0 where
   pub place : at ≡ length (mark ++ spelled records)
   pub unfit : IsUnfit rest
 
+-- the mark, records of these sizes, and an open gate behind which there is no record with its gate
+pub record BreaksOff (mark : List ℕ) (sizes : List (ℕ × ℕ)) (bytes : List ℕ) : Type 0 where
+  pub longer : 9 < length bytes
+  pub records : List Record
+  pub sized : map size_of records ≡ sizes
+  pub bounded : AreBounded records
+  pub rest : List ℕ
+  pub split : bytes ≡ mark ++ spelled records ++ 165 ∷ rest
+  pub unfit : IsUnfit rest
+
 -- The count of faults stays, but for `Failed`, where it rises.
 abbrev pub CountsFailure : {T : Type 0} → ℕ → ℕ → Result T LogFault → Type 0
 CountsFailure before now (Ok x) = now ≡ before
@@ -48,6 +58,13 @@ Shows mark bytes Failed = Unit {0}
 Shows mark bytes NotOurs = IsForeign mark bytes
 Shows mark bytes (Broken at) = IsBroken mark bytes at
 Shows mark bytes OutOfMemory = 9 < length bytes
+
+-- the same of a start that gives the front of an area that breaks off
+abbrev pub ShowsFront : List ℕ → List ℕ → LogFault → Type 0
+ShowsFront mark bytes Failed = Unit {0}
+ShowsFront mark bytes NotOurs = IsForeign mark bytes
+ShowsFront mark bytes (Broken at) = ⊥
+ShowsFront mark bytes OutOfMemory = 9 < length bytes
 
 -- A start at Ok: an area of at most nine bytes was given its mark and a closed gate, and a longer one is read as it is.
 pub record Starts (area : Area) (mark : List ℕ) (sizes : List (ℕ × ℕ)) (old new : Areas) : Type 0 where

@@ -3,7 +3,7 @@ use Rattle.std.specs.Prelude.{◌≡◌, ◌⊎◌, ℕ, List, [], ◌∷◌, �
 use Rattle.delf_disk.specs.declared.area.Area.{Area}
 use Rattle.delf_disk.specs.Areas.{Areas, area_of, rest_of}
 use Rattle.gate_log.specs.Records.{Record, size_of, head_of, payload_of, replaced}
-use Rattle.gate_log.specs.Logs.{Log, Keeps}
+use Rattle.gate_log.specs.Logs.{Log, Front, Keeps}
 
 -- the records as they were, or with this one more
 pub record MayAdd (area : Area) (sizes : List (ℕ × ℕ)) (head payload : List ℕ) (old new : Areas) : Type 0 where
@@ -59,3 +59,8 @@ HeadRead area sizes i areas bytes =
 abbrev pub PayloadRead : Area → List (ℕ × ℕ) → ℕ → Areas → List ℕ → Type 0
 PayloadRead area sizes i areas bytes =
     (mark : List ℕ) (records : List Record) → map size_of records ≡ sizes → Log mark records (area_of area areas) → bytes ≡ payload_of records i
+
+-- the same in an area of which records of these sizes stand at the front
+abbrev pub FrontHeadRead : Area → List (ℕ × ℕ) → ℕ → Areas → List ℕ → Type 0
+FrontHeadRead area sizes i areas bytes =
+    (mark : List ℕ) (records : List Record) → map size_of records ≡ sizes → Front mark records (area_of area areas) → bytes ≡ head_of records i

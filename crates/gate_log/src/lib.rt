@@ -9,6 +9,7 @@ mod begin;
 mod close;
 mod commit;
 mod fault;
+mod front;
 mod lengths;
 mod line;
 mod log;
@@ -18,4 +19,5 @@ mod tests;
 mod wipe;
 
 pub use fault::LogFault;
+pub use front::Front;
 pub use log::GateLog;

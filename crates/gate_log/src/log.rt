@@ -1,22 +1,23 @@
 //! The log, with the place of each record.
-ghost use Rattle.std.specs.Prelude.{◌≡◌, ◌+◌, ◌-◌, ◌^◌, ◌≤◌, ◌<◌, [], ◌∷◌, ◌++◌, ℕ, length, take, drop, IfOk, IfErr, OnOk, OnErr, vec_len};
+ghost use Rattle.std.specs.Prelude.{◌≡◌, ◌+◌, ◌-◌, ◌^◌, ◌≤◌, ◌<◌, [], ◌∷◌, ◌++◌, ℕ, true, false, length, take, drop, IfOk, IfErr, OnOk, OnErr, vec_len};
 ghost use Rattle.delf_disk.specs.Areas.{area_of};
 ghost use Rattle.delf_disk.specs.Images.{Torn, Same, Only};
 ghost use Rattle.delf_disk.specs.Causes.{HasCause};
 ghost use Rattle.delf_disk.specs.Plain.{Plain, SameKind};
 ghost use Rattle.delf_disk.specs.Moments.{Runs};
-ghost use Rattle.gate_log.specs.Logs.{StandIn};
+ghost use Rattle.gate_log.specs.Logs.{StandIn, Fronts};
 ghost use Rattle.gate_log.specs.declared.fault.LogFault.TheVariants.{NotOurs, Broken};
-ghost use Rattle.gate_log.specs.Opening.{IsForeign, IsBroken, Starts, Shows, OnlyFault, CountsFailure};
-ghost use Rattle.gate_log.specs.Steps.{MayAdd, Adds, HeadRead, PayloadRead, MayScrub, Scrubs, MayDrop, Drops, MaySettle, Settles};
+ghost use Rattle.gate_log.specs.Opening.{IsForeign, IsBroken, BreaksOff, Starts, Shows, ShowsFront, OnlyFault, CountsFailure};
+ghost use Rattle.gate_log.specs.Steps.{MayAdd, Adds, HeadRead, FrontHeadRead, PayloadRead, MayScrub, Scrubs, MayDrop, Drops, MaySettle, Settles};
 ghost use Rattle.gate_log.specs.Places.{AreTied, sizes_at, size_in, gate_from};
 
 use crate::begin::{BLANK, FIRST_GATE, begin};
 use crate::close::close;
 use crate::commit::commit;
 use crate::fault::LogFault;
+use crate::front::Front;
 use crate::line::lay;
-use crate::scan::{Place, find};
+use crate::scan::{Place, find, find_front};
 use crate::wipe::{wipe, wipe_tail};
 use delf_disk::{Area, Disk, Failed};
 use std::alloc::{AllocError, Global};
@@ -101,6 +102,48 @@ impl GateLog {
         Ok(Self::over(alloc, area, scan.places, scan.end))
     }
 
+    /// Starts the log of an area as `start` does, but of one that breaks off it gives the records before the broken gate:
+    /// that is the one behind which there is no record with its gate.
+    pub fn start_front<D: Disk>(
+        alloc: Global,
+        disk: &mut D,
+        area: Area,
+        mark: [u8; 8],
+    ) -> Result<Front, LogFault>
+        ensures area { IfOk result (λ front. front.log.area ≡ area) }
+        ensures starts { IfOk result (λ front. front.whole ≡ true → Plain (D.told disk.old) (D.honest disk.old)
+            → Starts area mark front.log.sizes (D.seen disk.old) (D.seen disk.new)) }
+        ensures breaks { IfOk result (λ front. front.whole ≡ false → Plain (D.told disk.old) (D.honest disk.old)
+            → BreaksOff mark front.log.sizes (area_of area (D.seen disk.old))) }
+        ensures fault { IfErr result (λ fault. Plain (D.told disk.old) (D.honest disk.old)
+            → ShowsFront mark (area_of area (D.seen disk.old)) fault) }
+
+        ensures durable { OnOk result (Plain (D.told disk.old) (D.honest disk.old)
+            → Only (D.seen disk.old) (D.may_leave disk.old) → Only (D.seen disk.new) (D.may_leave disk.new)) }
+
+        // A crash leaves a blank area blank until it has answered, and a longer one as it was.
+        ensures any_moment_blank { Plain (D.told disk.old) (D.honest disk.old) → length (area_of area (D.seen disk.old)) ≤ 9
+            → Runs D.moment D.may_leave D.left_since (Torn area 0 9) disk.old disk.new }
+        ensures any_moment { Plain (D.told disk.old) (D.honest disk.old) → 9 < length (area_of area (D.seen disk.old))
+            → Runs D.moment D.may_leave D.left_since Same disk.old disk.new }
+        ensures unwritten { Plain (D.told disk.old) (D.honest disk.old) → 9 < length (area_of area (D.seen disk.old))
+            → D.seen disk.new ≡ D.seen disk.old }
+
+        ensures kind { SameKind D.told D.honest D.order D.orders disk.old disk.new }
+        ensures cause { CountsFailure (D.faults disk.old) (D.faults disk.new) result }
+    {
+        let len = disk.len(area)?;
+        if len <= BLANK {
+            begin(disk, area, &mark)?;
+            let log = Self::over(alloc, area, Vec::new(alloc), FIRST_GATE);
+            return Ok(Front { log, whole: true });
+        }
+        let scan = find_front(alloc, disk, area, &mark, len)?;
+        let whole = scan.whole;
+        let log = Self::over(alloc, area, scan.places, scan.end);
+        Ok(Front { log, whole })
+    }
+
     fn over(alloc: Global, area: Area, places: Vec<Place>, end: u64) -> Self
         requires tied { AreTied places.items end }
         requires count { vec_len places < 2 ^ 32 }
@@ -176,6 +219,19 @@ impl GateLog {
         (u32::from(place.head), place.payload)
     }
 
+    /// The place of the gate of record `i`; where that is the number of records, of the gate behind them.
+    pub fn gate(&self, i: u32) -> u64
+        requires { i ≤ length self.now.sizes }
+        ensures { result ≡ gate_from 8 self.now.sizes i }
+    {
+        let i = i as usize;
+        if i < self.places.len() {
+            self.places[i].gate
+        } else {
+            self.end
+        }
+    }
+
     /// Makes room for `n` more records. No other call than `start` takes memory.
     pub fn reserve(&mut self, n: u32) -> Result<(), AllocError>
         ensures area { self.new.area ≡ self.old.area }
@@ -215,6 +271,32 @@ impl GateLog {
         ensures rest { IfOk result (λ n. drop n buf.new ≡ drop n buf.old) }
 
         ensures stands { Plain (D.told disk.old) (D.honest disk.old) → StandIn self.now.area self.now.sizes (D.may_leave disk.new) }
+        ensures seen { Plain (D.told disk.old) (D.honest disk.old) → D.seen disk.new ≡ D.seen disk.old }
+        ensures any_moment { Plain (D.told disk.old) (D.honest disk.old)
+            → Runs D.moment D.may_leave D.left_since Same disk.old disk.new }
+        ensures kind { SameKind D.told D.honest D.order D.orders disk.old disk.new }
+        ensures cause { HasCause (D.faults disk.old) (D.faults disk.new) result }
+    {
+        let span = self.head_span(i);
+        disk.read(self.area, span.at, &mut buf[..span.len as usize])?;
+        Ok(span.len as u16)
+    }
+
+    /// Reads the head of record `i` as `read_head` does, also of an area that breaks off behind the records.
+    pub fn read_front_head<D: Disk>(
+        &self,
+        disk: &mut D,
+        i: u32,
+        buf: &mut [u8; 128],
+    ) -> Result<u16, Failed>
+        requires inside { i < length self.now.sizes }
+        requires fits { (size_in self.now.sizes i).0 ≤ 128 }
+        requires fronts { Plain (D.told disk.old) (D.honest disk.old) → Fronts self.now.area self.now.sizes (D.seen disk.old) }
+
+        ensures length { IfOk result (λ n. n ≡ (size_in self.now.sizes i).0) }
+        ensures head { IfOk result (λ n. Plain (D.told disk.old) (D.honest disk.old)
+            → FrontHeadRead self.now.area self.now.sizes i (D.seen disk.old) (take n buf.new)) }
+
         ensures seen { Plain (D.told disk.old) (D.honest disk.old) → D.seen disk.new ≡ D.seen disk.old }
         ensures any_moment { Plain (D.told disk.old) (D.honest disk.old)
             → Runs D.moment D.may_leave D.left_since Same disk.old disk.new }

@@ -1,12 +1,12 @@
 //! Going through the records of an area.
-ghost use Rattle.std.specs.Prelude.{◌≡◌, ◌+◌, ◌^◌, ◌<◌, ◌≤◌, ℕ, length, take, IfOk, IfSome, vec_len};
+ghost use Rattle.std.specs.Prelude.{◌≡◌, ◌+◌, ◌^◌, ◌<◌, ◌≤◌, ℕ, true, false, length, take, IfOk, IfErr, IfSome, vec_len};
 ghost use Rattle.delf_disk.specs.Areas.{area_of};
 ghost use Rattle.delf_disk.specs.Images.{Same};
 ghost use Rattle.delf_disk.specs.Plain.{Plain, SameKind};
 ghost use Rattle.delf_disk.specs.Moments.{Runs};
 ghost use Rattle.gate_log.specs.declared.fault.LogFault.TheVariants.{NotOurs, Broken};
 ghost use Rattle.gate_log.specs.Opening.{IsForeign, IsBroken, OnlyFault, CountsFailure};
-ghost use Rattle.gate_log.specs.Looking.{Looked, Scanned};
+ghost use Rattle.gate_log.specs.Looking.{Looked, Scanned, ScannedFront};
 ghost use Rattle.gate_log.specs.Places.{AreTied};
 
 use crate::commit::OPEN;
@@ -29,11 +29,13 @@ pub(crate) struct Place {
     pub(crate) payload: u32,
 }
 
-/// The places of the records of an area, and that of the closed gate behind them.
+/// The places of the records of an area, and that of the gate behind them: a closed one where the area is whole, else an
+/// open one behind which there is no record with its gate.
 #[derive(Drop)]
 pub(crate) struct Scan {
     pub(crate) places: Vec<Place>,
     pub(crate) end: u64,
+    pub(crate) whole: bool,
 }
 
 /// Looks at one gate and the lengths behind it. `None` if it is closed.
@@ -71,7 +73,8 @@ pub(crate) fn look<D: Disk>(
     }
 }
 
-/// Goes through the records of an area that is longer than nine bytes, up to the first closed gate.
+/// Goes through the records of an area that is longer than nine bytes, up to the first gate that is closed or behind which
+/// there is no record.
 pub(crate) fn scan_area<D: Disk>(
     alloc: Global,
     disk: &mut D,
@@ -83,7 +86,7 @@ pub(crate) fn scan_area<D: Disk>(
     requires len { Plain (D.told disk.old) (D.honest disk.old) → len ≡ length (area_of area (D.seen disk.old)) }
 
     ensures scanned { Plain (D.told disk.old) (D.honest disk.old)
-        → Scanned (take 8 (area_of area (D.seen disk.old))) (area_of area (D.seen disk.old)) result }
+        → ScannedFront (take 8 (area_of area (D.seen disk.old))) (area_of area (D.seen disk.old)) result }
     ensures tied { IfOk result (λ scan. AreTied scan.places.items scan.end) }
     ensures count { IfOk result (λ scan. vec_len scan.places < 2 ^ 32) }
     ensures within { IfOk result (λ scan. scan.end < len) }
@@ -96,8 +99,23 @@ pub(crate) fn scan_area<D: Disk>(
     let mut places = Vec::new(alloc);
     let mut at = 8;
     'gates: loop {
-        let Some(lengths) = look(disk, area, at, len)? else {
-            return Ok(Scan { places, end: at });
+        let found = match look(disk, area, at, len) {
+            Err(LogFault::Broken { .. }) => {
+                return Ok(Scan {
+                    places,
+                    end: at,
+                    whole: false,
+                });
+            }
+            Err(fault) => return Err(fault),
+            Ok(found) => found,
+        };
+        let Some(lengths) = found else {
+            return Ok(Scan {
+                places,
+                end: at,
+                whole: true,
+            });
         };
         if places.len() >= MOST_RECORDS {
             return Err(LogFault::OutOfMemory);
@@ -112,6 +130,38 @@ pub(crate) fn scan_area<D: Disk>(
 }
 
 /// Reads the mark of an area that is longer than nine bytes, and goes through its records.
+pub(crate) fn find_front<D: Disk>(
+    alloc: Global,
+    disk: &mut D,
+    area: Area,
+    mark: &[u8; 8],
+    len: u64,
+) -> Result<Scan, LogFault>
+    requires longer { 9 < len }
+    requires len { Plain (D.told disk.old) (D.honest disk.old) → len ≡ length (area_of area (D.seen disk.old)) }
+
+    ensures scanned { Plain (D.told disk.old) (D.honest disk.old) → ScannedFront mark.now (area_of area (D.seen disk.old)) result }
+    ensures tied { IfOk result (λ scan. AreTied scan.places.items scan.end) }
+    ensures count { IfOk result (λ scan. vec_len scan.places < 2 ^ 32) }
+    ensures reach { IfOk result (λ scan. scan.end < 2 ^ 62) }
+    ensures seen { Plain (D.told disk.old) (D.honest disk.old) → D.seen disk.new ≡ D.seen disk.old }
+    ensures any_moment { Plain (D.told disk.old) (D.honest disk.old)
+        → Runs D.moment D.may_leave D.left_since Same disk.old disk.new }
+    ensures kind { SameKind D.told D.honest D.order D.orders disk.old disk.new }
+    ensures cause { CountsFailure (D.faults disk.old) (D.faults disk.new) result }
+{
+    if len >= FARTHEST {
+        return Err(LogFault::OutOfMemory);
+    }
+    let mut found = [0u8; 8];
+    disk.read(area, 0, &mut found)?;
+    if found != *mark {
+        return Err(LogFault::NotOurs);
+    }
+    scan_area(alloc, disk, area, len)
+}
+
+/// The same for an area that has to be whole.
 pub(crate) fn find<D: Disk>(
     alloc: Global,
     disk: &mut D,
@@ -136,13 +186,20 @@ pub(crate) fn find<D: Disk>(
     ensures kind { SameKind D.told D.honest D.order D.orders disk.old disk.new }
     ensures cause { CountsFailure (D.faults disk.old) (D.faults disk.new) result }
 {
-    if len >= FARTHEST {
-        return Err(LogFault::OutOfMemory);
+    match find_front(alloc, disk, area, mark, len) {
+        Err(fault) => Err(fault),
+        Ok(scan) => whole(scan),
     }
-    let mut found = [0u8; 8];
-    disk.read(area, 0, &mut found)?;
-    if found != *mark {
-        return Err(LogFault::NotOurs);
+}
+
+/// The scan itself, where it is of a whole area.
+fn whole(scan: Scan) -> Result<Scan, LogFault>
+    ensures ok { IfOk result (λ it. (it ≡ scan) × (scan.whole ≡ true)) }
+    ensures err { IfErr result (λ fault. (fault ≡ Broken scan.end) × (scan.whole ≡ false)) }
+{
+    if scan.whole {
+        Ok(scan)
+    } else {
+        Err(LogFault::Broken { at: scan.end })
     }
-    scan_area(alloc, disk, area, len)
 }

@@ -1,2 +1,11 @@
+pub mod SameGraph
+pub mod Twins
+pub mod Values
+pub mod Union
+pub mod Back
+pub mod Inverse
+pub mod Items
+pub mod Outside
+pub mod Parts
 pub mod Refused
 pub mod Whole

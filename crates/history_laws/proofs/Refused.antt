@@ -17,8 +17,8 @@ use Rattle.delf_model.specs.Sound.{ObjectsLeave, DoneErasesReached, TookClosure,
 use Rattle.delf_model.specs.Worked.{example_rules, owning, edge}
 use Rattle.delf_model.proofs.Graphs.{same_key_is}
 use Rattle.reach_laws.proofs.Calm.{order_does_not_matter}
-use Rattle.inverse_laws.proofs.Example.{restored_alone}
-use Rattle.inverse_laws.specs.Example.{tag, at_zero, alone_history}
+use Rattle.history_laws.proofs.Parts.{restored_alone}
+use Rattle.history_laws.specs.Parts.{tag, at_zero, alone_history}
 use Rattle.history_laws.specs.Examples.{deleted_graph, left_behind, took_too_much, puts, edge_first, put_twice, erased_twice, photo_retaken, other_size, two_deletions}
 
 -- the closure

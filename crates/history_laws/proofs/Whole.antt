@@ -10,8 +10,8 @@ use Rattle.reach_laws.proofs.Reach.{done_erases_reached}
 use Rattle.reach_laws.proofs.Calm.{order_does_not_matter}
 use Rattle.put_laws.proofs.Puts.{judged_puts}
 use Rattle.order_laws.proofs.First.{first_is_legal}
-use Rattle.union_laws.proofs.Union.{restore_is_union}
-use Rattle.inverse_laws.proofs.Inverse.{restore_is_inverse}
+use Rattle.history_laws.proofs.Union.{restore_is_union}
+use Rattle.history_laws.proofs.Inverse.{restore_is_inverse}
 
 pub legal_is_sound : (rules : RuleSet) (history : List Entry) → Legal rules history → Sound rules history
 legal_is_sound rules history legal = record {

@@ -8,7 +8,7 @@ use Rattle.delf_model.specs.declared.entry.What.TheVariants.{Create, Link, Delet
 use Rattle.delf_model.specs.Graph.{Graph}
 use Rattle.delf_model.specs.State.{after}
 use Rattle.delf_model.specs.Worked.{example_rules, user, photo, owning, object, edge}
-use Rattle.inverse_laws.specs.Example.{tag, at_zero, deleted, alone_history}
+use Rattle.history_laws.specs.Parts.{tag, at_zero, deleted, alone_history}
 
 -- the graph right after the deletion was accepted
 abbrev pub deleted_graph : Graph

@@ -12,7 +12,7 @@ ghost use Rattle.delf_model.specs.Report.{listed_at};
 ghost use Rattle.delf_model.specs.Closure.{Calm, union, items_of_job};
 ghost use Rattle.delf_model.specs.Sound.{ObjectsLeave, DoneErasesReached, TookClosure, PutsAreJudged, OnlyPuts, RestoreIsUnion, PutBack, RaisesNot};
 ghost use Rattle.delf_model.specs.Worked.{example_rules, user, photo, object, edge, owning};
-ghost use Rattle.inverse_laws.specs.Example.{tag, at_zero, deleted, alone_history};
+ghost use Rattle.history_laws.specs.Parts.{tag, at_zero, deleted, alone_history};
 ghost use Rattle.history_laws.specs.Examples.{deleted_graph, left_behind, erased, took_too_much, restored, puts, edge_first, put_twice, erased_twice, photo_retaken, user_retaken, logged_edge, other_size, two_deletions, both_cut};
 
 /// A deletion took the closure of its user, who owns a photo. One that leaves the photo did not, and is not done; and one

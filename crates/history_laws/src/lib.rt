@@ -1,8 +1,10 @@
-//! What every legal history is, as one fact, and examples of what each law refuses. Each law is the contract of a function
-//! that does nothing.
+//! What every legal history is, as one fact, with the laws of restores, and examples of what each law refuses. Each law is
+//! the contract of a function that does nothing.
 #![tactic(auto)]
 
 pub mod examples;
+pub mod inverses;
+pub mod unions;
 
 ghost use Rattle.std.specs.Prelude.{◌≤◌, ℕ, List};
 ghost use Rattle.delf_model.specs.declared.entry.Entry.{Entry};

@@ -1,22 +1,19 @@
-use Rattle.std.proofs.Common.{◌≡◌, ℕ, zero, suc, ◌+◌, ◌<◌, Bool, true, false, cond, ◌&&◌, ◌||◌, not, List, ◌∷◌, ◌++◌, [], map, length, get_or, take, Option, Some, None, is_some, refl, sym, ◌∙◌, ap, subst, arith}
+use Rattle.std.proofs.Common.{◌≡◌, ℕ, zero, suc, ◌+◌, ◌<◌, Bool, true, false, cond, ◌&&◌, not, List, ◌∷◌, ◌++◌, [], map, length, get_or, Option, Some, None, is_some, refl, sym, ◌∙◌, ap, arith}
 use Rattle.std.specs.Prelude.{nat_eq, nat_lt, find, option_map, slice_get, count_by, is_none}
-use Rattle.std.specs.List.{position, list_all, list_any}
+use Rattle.std.specs.List.{position}
 use Rattle.std.proofs.lemmas.List.Quantifiers.{position-Some}
 use Rattle.delf_model.specs.declared.entry.What.TheVariants.{Cut, Erase, Purge}
 use Rattle.delf_model.specs.State.{State, JobRow, Logged, owned, job_row, is_restored, is_restored_row, left, is_open_of, job_of, first_of_two}
 use Rattle.delf_model.specs.Legal.{last_erasure_or_zero}
-use Rattle.delf_model.specs.Order.{is_restoring, is_oldest_restoring, is_no_older, purges, last_place, first_put, first_purge, put_of, put_of_job, purge_of, cut_or_erase}
+use Rattle.delf_model.specs.Order.{purges, last_place, first_purge, purge_of, cut_or_erase}
 use Rattle.job_table.specs.declared.jobs.Row.{Row}
 use Rattle.job_table.specs.Table.{Table, IsTableOf, Keeps, owned_among}
-use Rattle.job_table.specs.Parts.{row_of, logged_of, ItemPart}
-use Rattle.job_table.specs.declared.items.Kept.{Kept}
-use Rattle.job_table.proofs.Listing.{length_take}
+use Rattle.job_table.specs.Parts.{row_of}
 use Rattle.job_table.specs.Items.{is_unhandled_of}
 use Rattle.delf_model.specs.declared.rows.EdgeRow.{EdgeRow}
-use Rattle.job_table.specs.Serial.{left_in, restoring_in, is_elder, is_oldest_in, purges_in}
-use Rattle.job_table.proofs.Lookups.{both}
+use Rattle.job_table.specs.Serial.{left_in, purges_in}
 use Rattle.job_table.proofs.Steps.{eqb_is}
-use Rattle.job_table.proofs.Places.{find_map, find_at_place, find_nowhere, position_none, less_tail, map_length, get_map, take_one}
+use Rattle.job_table.proofs.Places.{find_map, find_at_place, find_nowhere, position_none, less_tail}
 use Rattle.job_table.proofs.Lefts.{left_restored, left_none, row_at_place}
 
 -- the first job that a test over the kept rows finds is the first that the state's test finds
@@ -61,40 +58,6 @@ left_kept s items rows keeps e f k d l = go (is_some row.restored) refl
     go true h = left_restored s row.start (ap (λ (o : Option JobRow). is_restored_row o) found ∙ h) ∙ ap (count_by (is_unhandled_of row.start)) (sym f)
     go false h = left_none s row.start (ap (λ (o : Option JobRow). is_restored_row o) found ∙ h)
 
-pub restoring_kept : (s : State) (items : List Logged) (rows : List Row) → Keeps s → map row_of rows ≡ s.jobs → items ≡ s.items →
-    Agrees (restoring_in items) (is_restoring s) rows
-restoring_kept s items rows keeps e f k d l =
-    ap (λ (n : ℕ). is_some (get_or rows k d).restored && nat_lt 0 n) (left_kept s items rows keeps e f k d l)
-
--- none of the kept rows passes where each job fails it
-pub none_kept : (p : Row → Bool) (q : JobRow → Bool) (rows : List Row) → ((k : ℕ) (d : Row) → k < length rows → q (row_of (get_or rows k d)) ≡ not (p (get_or rows k d))) →
-    list_all q (map row_of rows) ≡ not (list_any p rows)
-none_kept p q [] a = refl
-none_kept p q (x ∷ xs) a =
-    ap (λ (b : Bool). b && list_all q (map row_of xs)) (a 0 x (omega arith))
-    ∙ ap (λ (b : Bool). not (p x) && b) (none_kept p q xs (λ k d l. a (suc k) d (omega arith))) ∙ split (p x) (list_any p xs)
-  where
-    split : (a b : Bool) → (not a && not b) ≡ not (a || b)
-    split true b = refl
-    split false b = refl
-
-pub oldest_kept : (s : State) (items : List Logged) (rows : List Row) → Keeps s → map row_of rows ≡ s.jobs → items ≡ s.items →
-    Agrees (is_oldest_in rows items) (is_oldest_restoring s) rows
-oldest_kept s items rows keeps e f k d l =
-    ap (λ (b : Bool). b && list_all test s.jobs) (restoring_kept s items rows keeps e f k d l)
-    ∙ ap (λ (b : Bool). restoring_in items (get_or rows k d) && b)
-    (ap (list_all test) (sym e) ∙ none_kept (is_elder items (get_or rows k d)) test rows
-    (λ n v near. ap (λ (b : Bool). not b || is_no_older (get_or rows k d).restored (get_or rows n v).restored) (restoring_kept s items rows keeps e f n v near)
-    ∙ turn (restoring_in items (get_or rows n v)) (is_no_older (get_or rows k d).restored (get_or rows n v).restored)))
-  where
-    turn : (a b : Bool) → (not a || b) ≡ not (a && not b)
-    turn true true = refl
-    turn true false = refl
-    turn false b = refl
-
-    test : JobRow → Bool
-    test other = not (is_restoring s other) || is_no_older (get_or rows k d).restored other.restored
-
 pub purges_kept : (s : State) (pairs : List (ℕ × ℕ)) (items : List Logged) (moment window : ℕ) (rows : List Row) → Keeps s → map row_of rows ≡ s.jobs → items ≡ s.items →
     ((job : ℕ) → owned_among pairs job ≡ owned s job) → window ≡ s.rules.window →
     Agrees (purges_in pairs items window moment) (purges s moment) rows
@@ -134,41 +97,11 @@ last_push p i (x ∷ xs) y =
     go true = refl
     go false = refl
 
-pub last_more : (p : Logged → Bool) (kept items : List Kept) (now : ItemPart) (spare i : ℕ) (got : Kept) (last next : Option ℕ) → record { list = map logged_of kept; spare = spare } ≡ now →
-    items ≡ kept → i < length items → got ≡ get_or items i got → last ≡ last_place p 0 (take i now.list) →
-    next ≡ cond (p (logged_of got)) (Some i) last → next ≡ last_place p 0 (take (i + 1) now.list)
-last_more p kept items now spare i got last next v e l g h n =
-    let list : now.list ≡ map logged_of items = ap (λ (m : ItemPart). m.list) (sym v) ∙ ap (map logged_of) (sym e) in
-    let short : i < length (map logged_of items) = subst (λ (k : ℕ). i < k) (sym (map_length logged_of items)) l in
-    let item : get_or (map logged_of items) i (logged_of got) ≡ logged_of got = get_map logged_of items i got ∙ ap logged_of (sym g) in
-    let count : 0 + length (take i (map logged_of items)) ≡ i = let c = length_take (map logged_of items) i (omega arith) in omega (arith, c) in
-    n ∙ ap (λ (o : Option ℕ). cond (p (logged_of got)) (Some i) o) (h ∙ ap (λ (xs : List Logged). last_place p 0 (take i xs)) list)
-    ∙ sym (ap (λ (xs : List Logged). last_place p 0 (take (i + 1) xs)) list ∙ ap (last_place p 0) (take_one (map logged_of items) i (logged_of got) short ∙ ap (λ (x : Logged). take i (map logged_of items) ++ x ∷ []) item)
-    ∙ last_push p 0 (take i (map logged_of items)) (logged_of got) ∙ ap (λ (k : ℕ). cond (p (logged_of got)) (Some k) (last_place p 0 (take i (map logged_of items)))) count)
-
 -- the first steps, by what the kept rows say
 
 module _ (s : State) (t : Table) (rows : List Row) (h : IsTableOf s t) (e : map row_of rows ≡ t.jobs) where
   kept : map row_of rows ≡ s.jobs
   kept = e ∙ h.jobs
-
-  pub put_found : (i : ℕ) (got : Row) → Some i ≡ position (is_oldest_in rows t.items) rows → got ≡ get_or rows i got →
-      put_of got.start (last_place (is_unhandled_of got.start) 0 t.items) ≡ first_put s
-  put_found i got f g =
-      let facts = position-Some (is_oldest_in rows t.items) rows i got (sym f) in
-      let oldest : is_oldest_in rows t.items got ≡ true = ap (is_oldest_in rows t.items) g ∙ facts.1 in
-      let restoring = both (restoring_in t.items got) (not (list_any (is_elder t.items got) rows)) oldest in
-      let restored = both (is_some got.restored) (nat_lt 0 (left_in t.items got)) restoring.0 in
-      let place : slice_get s.jobs i ≡ Some (row_of got) = ap (λ (j : List JobRow). slice_get j i) (sym kept) ∙ slice_map rows i got facts.0 ∙ ap (λ (r : Row). Some (row_of r)) (sym g) in
-      let row : job_row s.jobs got.start ≡ Some (row_of got) = row_at_place 0 s.len i (row_of got) s.jobs h.keeps.starts place in
-      let is : is_restored s.jobs got.start ≡ true = ap (λ (o : Option JobRow). is_restored_row o) row ∙ restored.0 in
-      ap (λ (xs : List Logged). put_of got.start (last_place (is_unhandled_of got.start) 0 xs)) h.items
-      ∙ ap (put_of got.start) (sym (last_open s got.start 0 s.items is))
-      ∙ ap (put_of_job s) (sym (found_job (is_oldest_in rows t.items) (is_oldest_restoring s) rows s.jobs i got kept (oldest_kept s t.items rows h.keeps kept h.items) f g))
-
-  pub put_missing : None ≡ position (is_oldest_in rows t.items) rows → None ≡ first_put s
-  put_missing f =
-      ap (put_of_job s) (sym (no_job_found (is_oldest_in rows t.items) (is_oldest_restoring s) rows s.jobs kept (oldest_kept s t.items rows h.keeps kept h.items) f))
 
   pub purge_found : (window moment i : ℕ) (got : Row) → window ≡ s.rules.window → Some i ≡ position (purges_in t.owners t.items window moment) rows → got ≡ get_or rows i got →
       Some (Purge got.start) ≡ first_purge s moment

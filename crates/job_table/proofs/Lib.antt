@@ -25,3 +25,11 @@ pub mod Owning
 pub mod Rising
 pub mod Naming
 pub mod Seating
+pub mod Tallying
+pub mod WaitingJobs
+pub mod Purges
+pub mod Restores
+pub mod Oldest
+pub mod SpansOf
+pub mod SpanWalks
+pub mod Unputs

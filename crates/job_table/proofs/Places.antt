@@ -3,7 +3,7 @@ use Rattle.std.specs.Prelude.{nat_eq, nat_lt, max, find, option_map, sum_by}
 use Rattle.std.specs.List.{remove, position, position_or_len, list_any}
 use Rattle.std.proofs.lemmas.List.Quantifiers.{position-Some}
 use Rattle.std.proofs.lemmas.Bool.Decides.{nat_tests}
-use Rattle.std.proofs.lemmas.List.Sums.{sum_by-cons, fails_before_first, sum_by_more, sum_by_more_le}
+use Rattle.std.proofs.lemmas.List.Sums.{sum_by-cons, fails_before_first}
 use Rattle.delf_model.specs.declared.entry.What.{What}
 use Rattle.delf_model.specs.declared.ids.JobName.{JobName}
 use Rattle.delf_model.specs.State.{JobRow, Logged, Handled, job_row, starts_at, handled_at, find_job, last_of, named_start, same_name, is_job}
@@ -296,21 +296,6 @@ pub get_map : {A B : Type 0} (g : A → B) (xs : List A) (i : ℕ) (d : A) → g
 get_map g [] i d = refl
 get_map g (x ∷ xs) zero d = refl
 get_map g (x ∷ xs) (suc i) d = get_map g xs i d
-
-pub weight_more : (kept items : List Kept) (now : ItemPart) (spare i sum w : ℕ) (got : Kept) (f : Logged → ℕ) → record { list = map logged_of kept; spare = spare } ≡ now →
-    items ≡ kept → i < length items → got ≡ get_or items i got → sum ≡ sum_by f (take i now.list) → w ≡ f (logged_of got) →
-    (sum + w ≡ sum_by f (take (i + 1) now.list)) × (sum + w ≤ sum_by f now.list)
-weight_more kept items now spare i sum w got f v e l g h n =
-    let list : now.list ≡ map logged_of items = ap (λ (m : ItemPart). m.list) (sym v) ∙ ap (map logged_of) (sym e) in
-    let short : i < length (map logged_of items) = subst (λ (k : ℕ). i < k) (sym (map_length logged_of items)) l in
-    let item : get_or (map logged_of items) i (logged_of got) ≡ logged_of got = get_map logged_of items i got ∙ ap logged_of (sym g) in
-    let was : sum ≡ sum_by f (take i (map logged_of items)) = h ∙ ap (λ (xs : List Logged). sum_by f (take i xs)) list in
-    let more = sum_by_more f (map logged_of items) i (logged_of got) short in
-    let all = sum_by_more_le f (map logged_of items) i (logged_of got) short in
-    let here : f (get_or (map logged_of items) i (logged_of got)) ≡ f (logged_of got) = ap f item in
-    let a : sum_by f (take (i + 1) now.list) ≡ sum_by f (take (i + 1) (map logged_of items)) = ap (λ (xs : List Logged). sum_by f (take (i + 1) xs)) list in
-    let b : sum_by f now.list ≡ sum_by f (map logged_of items) = ap (sum_by f) list in
-    (omega (arith, was, more, here, n, a), omega (arith, was, all, here, n, b))
 
 pub given_up_len : (step : What) (xs : List What) → length (given_up step xs) ≤ length xs
 given_up_len step [] = omega arith

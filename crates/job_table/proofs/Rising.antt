@@ -55,14 +55,14 @@ starts_parted len job xs r i j d l m h = go (nat_lt i j) refl
 
 -- the place of a start
 
-position_at : (p : Row → Bool) (xs : List Row) (i : ℕ) → position_or_len p xs ≡ i → i < length xs → Some i ≡ position p xs
+pub position_at : {A : Type 0} (p : A → Bool) (xs : List A) (i : ℕ) → position_or_len p xs ≡ i → i < length xs → Some i ≡ position p xs
 position_at p xs i e l = sym (go (nat_lt (position_or_len p xs) (length xs)) (grind (arith, nat_tests, e, l)))
   where
     go : (b : Bool) → b ≡ true → cond b (Some (position_or_len p xs)) None ≡ Some i
     go true h = ap (λ (n : ℕ). Some n) e
     go false h = absurd (cc h)
 
-position_past : (p : Row → Bool) (xs : List Row) → position_or_len p xs ≡ length xs → None ≡ position p xs
+pub position_past : {A : Type 0} (p : A → Bool) (xs : List A) → position_or_len p xs ≡ length xs → None ≡ position p xs
 position_past p xs e = sym (go (nat_lt (position_or_len p xs) (length xs)) (grind (arith, nat_tests, e)))
   where
     go : (b : Bool) → b ≡ false → cond b (Some (position_or_len p xs)) None ≡ None

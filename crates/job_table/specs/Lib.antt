@@ -8,6 +8,11 @@ pub mod Next
 pub mod Notes
 pub mod Owning
 pub mod Parts
+pub mod Restoring
 pub mod SeatsFit
 pub mod Serial
+pub mod Spans
 pub mod Table
+pub mod Tallies
+pub mod Unput
+pub mod Waits

@@ -1,4 +1,4 @@
-use Rattle.std.specs.Prelude.{ℕ, Bool, cond, nat_eq, nat_lt, List, [], ◌∷◌, option_map, is_some}
+use Rattle.std.specs.Prelude.{ℕ, Bool, cond, nat_eq, nat_lt, List, [], ◌∷◌, option_map}
 use Rattle.delf_model.specs.declared.entry.What.{What}
 use Rattle.delf_model.specs.State.{Handled, Logged, JobRow}
 use Rattle.job_table.specs.declared.items.Handling.{Handling}
@@ -55,9 +55,3 @@ is_start job row = nat_eq row.start job
 
 abbrev pub starts_before : ℕ → Row → Bool
 starts_before job row = nat_lt row.start job
-
-abbrev pub was_restored : Row → Bool
-was_restored row = is_some row.restored
-
-abbrev pub has_restore : JobRow → Bool
-has_restore row = is_some row.restored

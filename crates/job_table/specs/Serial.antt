@@ -1,8 +1,6 @@
 use Rattle.std.specs.Prelude.{ℕ, ◌+◌, Bool, cond, ◌&&◌, not, nat_eq, nat_lt, List, is_some, count_by}
-use Rattle.std.specs.List.{list_any}
 use Rattle.delf_model.specs.State.{Logged}
 use Rattle.delf_model.specs.Legal.{last_erasure_or_zero}
-use Rattle.delf_model.specs.Order.{is_no_older}
 use Rattle.job_table.specs.Table.{owned_among}
 use Rattle.job_table.specs.Items.{is_unhandled_of}
 use Rattle.job_table.specs.declared.jobs.Row.{Row}
@@ -11,16 +9,6 @@ use Rattle.job_table.specs.declared.jobs.Row.{Row}
 
 abbrev pub left_in : List Logged → Row → ℕ
 left_in items row = cond (is_some row.restored) (count_by (is_unhandled_of row.start) items) 0
-
-abbrev pub restoring_in : List Logged → Row → Bool
-restoring_in items row = is_some row.restored && nat_lt 0 (left_in items row)
-
--- the other one was restored before this one, and has unhandled items
-abbrev pub is_elder : List Logged → Row → Row → Bool
-is_elder items row other = restoring_in items other && not (is_no_older row.restored other.restored)
-
-abbrev pub is_oldest_in : List Row → List Logged → Row → Bool
-is_oldest_in rows items row = restoring_in items row && not (list_any (is_elder items row) rows)
 
 abbrev pub purges_in : List (ℕ × ℕ) → List Logged → ℕ → ℕ → Row → Bool
 purges_in pairs items window moment row =

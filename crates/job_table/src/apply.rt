@@ -7,9 +7,15 @@ ghost use Rattle.delf_model.specs.State.{State, step, owner, judged as judgement
 ghost use Rattle.delf_model.specs.Legal.{is_legal};
 ghost use Rattle.job_table.specs.Table.{IsTableOf, IsGraphOf, MayApply, owner_among, owned_among, starts_rise};
 ghost use Rattle.job_table.specs.Owning.{Gains};
+ghost use Rattle.job_table.specs.Parts.{handled_of};
+ghost use Rattle.job_table.specs.Restoring.{AreRestoring};
+ghost use Rattle.delf_model.specs.State.{unhandled, handled_at};
 ghost use Rattle.job_table.specs.Notes.{noted, noted_start, noted_restore, noted_purge, noted_item, noted_put, with_seat, weight_of, item_weight as weight_of_item, put_weight as weight_of_put, condemns_before, takes_last};
 
-use crate::items::Handling;
+use crate::items::{Handling, Items};
+use crate::jobs::Jobs;
+use crate::legal::job_of;
+use crate::restoring::{Restoring, restoring_at};
 use crate::seats::Seats;
 use crate::table::JobTable;
 use delf_model::{
@@ -223,7 +229,10 @@ impl JobTable {
         ensures { self.new ≡ noted_restore self.old moment (Some seat) job (self.old.owed + sum_by (weight_of job) self.old.items) }
     {
         let more = self.items.weight(job);
+        let before = restoring_at(&self.jobs, &self.items, job);
         self.jobs.restore(job, self.len);
+        let after = restoring_at(&self.jobs, &self.items, job);
+        self.restoring.change(job, before, after);
         self.seats.push(seat);
         self.len += 1;
         self.moment = moment;
@@ -248,7 +257,7 @@ impl JobTable {
         requires owed { 1 ≤ self.old.owed }
         ensures { self.new ≡ noted_item self.old moment job item (self.old.owed - 1) }
     {
-        self.items.push(item);
+        push(&mut self.items, &mut self.restoring, &self.jobs, item);
         self.jobs.erase(job, moment);
         self.len += 1;
         self.moment = moment;
@@ -263,7 +272,8 @@ impl JobTable {
         ensures owners { (other : ℕ) → owner_among self.new.owners other ≡ cond (nat_eq other id) None (owner_among self.old.owners other) }
         ensures owned { (other : ℕ) → owned_among self.new.owners other + cond (is_job other (owner_among self.old.owners id)) 1 0 ≡ owned_among self.old.owners other }
     {
-        self.items.push(Item::Object { job, row: *row });
+        let item = Item::Object { job, row: *row };
+        push(&mut self.items, &mut self.restoring, &self.jobs, item);
         self.jobs.erase(job, moment);
         self.owners.disown(id);
         self.len += 1;
@@ -281,7 +291,7 @@ impl JobTable {
             put: self.len,
             cause,
         };
-        self.items.handle(i, how);
+        handle(&mut self.items, &mut self.restoring, &self.jobs, i, how);
         let more = put_weight(&cause, item);
         self.len += 1;
         self.moment = moment;
@@ -357,13 +367,54 @@ impl JobTable {
         ensures same { self.new ≡ record (noted_item self.old moment job item (self.old.owed - 3)) { owners = self.new.owners } }
         ensures gains { Gains self.old.owners self.new.owners target job }
     {
-        self.items.push(item);
+        push(&mut self.items, &mut self.restoring, &self.jobs, item);
         self.jobs.erase(job, moment);
         self.owners.own(target, job);
         self.len += 1;
         self.moment = moment;
         self.owed -= 3;
         self.spare -= 1;
+    }
+}
+
+/// Logs the item, and notes whether its job is being restored.
+fn push(items: &mut Items, restoring: &mut Restoring, jobs: &Jobs, item: Item)
+    requires items_spare { 0 < items.old.spare }
+    requires restoring_spare { 0 < restoring.old.spare }
+    requires fits { length items.old.list + 1 < 2 ^ 32 }
+    requires told { AreRestoring jobs.now.list items.old.list restoring.old.list }
+    ensures list { items.new.list ≡ items.old.list ++ unhandled item ∷ [] }
+    ensures items_spare { items.new.spare + 1 ≡ items.old.spare }
+    ensures restoring_spare { restoring.old.spare ≤ restoring.new.spare + 1 }
+    ensures told { AreRestoring jobs.now.list items.new.list restoring.new.list }
+{
+    let job = job_of(&item);
+    let before = restoring_at(jobs, items, job);
+    items.push(item);
+    let after = restoring_at(jobs, items, job);
+    restoring.change(job, before, after);
+}
+
+/// Handles the item, and notes whether its job is being restored.
+fn handle(items: &mut Items, restoring: &mut Restoring, jobs: &Jobs, i: u32, how: Handling)
+    requires items_spare { 0 < items.old.spare }
+    requires restoring_spare { 0 < restoring.old.spare }
+    requires told { AreRestoring jobs.now.list items.old.list restoring.old.list }
+    ensures list { items.new.list ≡ handled_at items.old.list i (handled_of how) }
+    ensures len { length items.new.list ≡ length items.old.list }
+    ensures items_spare { items.old.spare ≤ items.new.spare + 1 }
+    ensures restoring_spare { restoring.old.spare ≤ restoring.new.spare + 1 }
+    ensures told { AreRestoring jobs.now.list items.new.list restoring.new.list }
+{
+    match items.get(i) {
+        Some(kept) => {
+            let job = job_of(&kept.item);
+            let before = restoring_at(jobs, items, job);
+            items.handle(i, how);
+            let after = restoring_at(jobs, items, job);
+            restoring.change(job, before, after);
+        }
+        None => {}
     }
 }
 

@@ -1,6 +1,4 @@
-ghost use Rattle.std.specs.Prelude.{◌≡◌, ◌+◌, ◌<◌, ◌≤◌, ◌^◌, ◌++◌, ◌∷◌, [], OnOk, length, slice_get, option_map, count_by, sum_by, cond, is_some, nat_eq, ◌-◌, ◌&&◌, Some};
-ghost use Rattle.std.specs.List.{list_all};
-ghost use Rattle.job_table.specs.declared.items.Kept.{Kept};
+ghost use Rattle.std.specs.Prelude.{◌≡◌, ◌+◌, ◌<◌, ◌≤◌, ◌^◌, ◌++◌, ◌∷◌, [], OnOk, drop, length, slice_get, option_map, count_by, sum_by, cond, is_some, nat_eq, ◌-◌, ◌&&◌, Some, unwrap_or, ℕ};
 ghost use Rattle.delf_model.specs.Order.{last_place};
 ghost use Rattle.job_table.specs.Parts.{logged_of, handled_of};
 ghost use Rattle.delf_model.specs.State.{unhandled, handled_at, job_of as job_of_item, is_object_item};
@@ -8,9 +6,16 @@ ghost use Rattle.delf_model.specs.Report.{is_of_job, is_object_of, is_edge_of, i
 ghost use Rattle.delf_model.specs.Legal.{end_handled, is_handled_end as is_handled_end_of};
 ghost use Rattle.job_table.specs.Items.{is_unhandled_of, listing_of};
 ghost use Rattle.job_table.specs.Notes.{weight_of};
+ghost use Rattle.job_table.specs.Spans.{no_span as empty_span, Spans, Within};
+ghost use Rattle.job_table.specs.Tallies.{tally_of};
+ghost use Rattle.job_table.specs.Unput.{is_unput as is_unput_of, next_unput as first_unput};
+ghost use Rattle.std.specs.HashMap.{get, spare};
 
+use crate::spans::{Span, grown, handled, no_span};
+use crate::tallies::{Tally, no_tally, share_of, with, without};
 use delf_model::{Cause, Item, Job, Listed, ObjectId};
 use std::alloc::{AllocError, Global};
+use std::collections::HashMap;
 use std::marker::Model;
 
 /// How an item was handled: the position of its Put, and the cause where it was listed.
@@ -27,21 +32,27 @@ pub struct Kept {
     pub handled: Option<Handling>,
 }
 
-/// The items of a history, numbered by place.
+/// The items of a history, numbered by place, with the tally of each job and where its items stand.
 #[derive(Drop)]
 pub struct Items {
     items: Vec<Kept>,
+    tallies: HashMap<u32, Tally>,
+    spans: HashMap<u32, Span>,
+    spare: u32,
 }
 
 impl Model for Items {
-    ghost use Rattle.std.specs.Prelude.{◌-◌, ◌<◌, ◌^◌, map, vec_len, vec_capacity};
+    ghost use Rattle.std.specs.Prelude.{map, nat_eq, vec_capacity};
+    ghost use Rattle.std.specs.HashMap.{get, spare as room_of};
     ghost use Rattle.job_table.specs.Parts.{ItemPart, logged_of};
+    ghost use Rattle.job_table.specs.Spans.{SpansFit};
+    ghost use Rattle.job_table.specs.Tallies.{ItemsFit};
 
     ghost Value = { ItemPart };
 
-    ghost view = { λ l. record { list = map logged_of l.items.items; spare = vec_capacity l.items - vec_len l.items } };
+    ghost view = { λ l. record { list = map logged_of l.items.items; spare = l.spare } };
 
-    ghost invariant = { λ l. vec_len l.items < 2 ^ 32 };
+    ghost invariant = { λ l. ItemsFit l.items.items (get nat_eq l.tallies) (vec_capacity l.items) (room_of l.tallies) l.spare × SpansFit (map logged_of l.items.items) (get nat_eq l.spans) (room_of l.spans) l.spare };
 }
 
 impl Items {
@@ -50,6 +61,9 @@ impl Items {
     {
         Items {
             items: Vec::new(alloc),
+            tallies: HashMap::new(alloc),
+            spans: HashMap::new(alloc),
+            spare: 0,
         }
     }
 
@@ -58,7 +72,13 @@ impl Items {
         ensures ok { OnOk result (n ≤ self.new.spare) }
         ensures kept { self.old.spare ≤ self.new.spare }
     {
+        if n <= self.spare {
+            return Ok(());
+        }
         self.items.reserve(n as usize)?;
+        self.tallies.reserve(n as usize)?;
+        self.spans.reserve(n as usize)?;
+        self.spare = n;
         Ok(())
     }
 
@@ -74,10 +94,36 @@ impl Items {
         ensures list { self.new.list ≡ self.old.list ++ unhandled item ∷ [] }
         ensures spare { self.new.spare + 1 ≡ self.old.spare }
     {
-        self.items.push_reserved(Kept {
+        let kept = Kept {
             item,
             handled: None,
-        });
+        };
+        let job = job_of(&item);
+        let tally = with(&self.tally(job), &share_of(&kept));
+        let span = grown(&span_in(&self.spans, job), self.items.len() as u32);
+        self.items.push_reserved(kept);
+        keep(&mut self.tallies, job, tally);
+        keep_span(&mut self.spans, job, span);
+        self.spare -= 1;
+    }
+
+    /// What the items of the job that starts here come to.
+    fn tally(&self, job: u32) -> Tally
+        ensures value { result ≡ tally_of job self.now.list }
+        ensures fits { length self.now.list < 2 ^ 32 }
+    {
+        match self.tallies.get(&job) {
+            Some(tally) => *tally,
+            None => no_tally(),
+        }
+    }
+
+    /// Where the items of the job that starts here stand.
+    fn span(&self, job: u32) -> Span
+        ensures spans { Spans self.now.list job result }
+        ensures within { Within self.now.list result }
+    {
+        span_in(&self.spans, job)
     }
 
     pub fn get(&self, i: u32) -> Option<Kept>
@@ -87,80 +133,100 @@ impl Items {
     }
 
     pub fn handle(&mut self, i: u32, how: Handling)
+        requires { 0 < self.old.spare }
         ensures list { self.new.list ≡ handled_at self.old.list i (handled_of how) }
         ensures len { length self.new.list ≡ length self.old.list }
-        ensures spare { self.new.spare ≡ self.old.spare }
+        ensures spare { self.old.spare ≤ self.new.spare + 1 }
     {
         let i = i as usize;
-        if i < self.items.len() {
-            self.items[i].handled = Some(how);
+        if i >= self.items.len() {
+            return;
         }
+        let old = self.items[i];
+        let new = Kept {
+            item: old.item,
+            handled: Some(how),
+        };
+        let job = job_of(&old.item);
+        let rest = without(&self.tally(job), &share_of(&old));
+        let tally = with(&rest, &share_of(&new));
+        let span = handled(&span_in(&self.spans, job), i as u32);
+        self.items[i] = new;
+        keep(&mut self.tallies, job, tally);
+        keep_span(&mut self.spans, job, span);
+        self.spare -= 1;
     }
 
     /// The number of items of the job.
     pub fn of_job(&self, job: Job) -> u32
         ensures { result ≡ count_by (is_of_job job) self.now.list }
     {
-        self.items
-            .iter()
-            .filter(|kept| job_of(&kept.item) == job.0)
-            .count() as u32
+        let tally = self.tally(job.0);
+        tally.erased + tally.cut
     }
 
     pub fn erased(&self, job: Job) -> u32
         ensures { result ≡ count_by (is_object_of job) self.now.list }
     {
-        self.items
-            .iter()
-            .filter(|kept| job_of(&kept.item) == job.0 && is_object(&kept.item))
-            .count() as u32
+        self.tally(job.0).erased
     }
 
     pub fn cut(&self, job: Job) -> u32
         ensures { result ≡ count_by (is_edge_of job) self.now.list }
     {
-        self.items
-            .iter()
-            .filter(|kept| job_of(&kept.item) == job.0 && !is_object(&kept.item))
-            .count() as u32
+        self.tally(job.0).cut
     }
 
     pub fn put(&self, job: Job) -> u32
         ensures { result ≡ count_by (is_put_of job) self.now.list }
     {
-        self.items
-            .iter()
-            .filter(|kept| job_of(&kept.item) == job.0 && was_put(&kept.handled))
-            .count() as u32
+        self.tally(job.0).put
     }
 
     pub fn listed(&self, job: Job) -> u32
         ensures { result ≡ count_by (is_listed_of job) self.now.list }
     {
-        self.items
-            .iter()
-            .filter(|kept| job_of(&kept.item) == job.0 && was_listed(&kept.handled))
-            .count() as u32
+        self.tally(job.0).listed
     }
 
     pub fn unhandled(&self, job: Job) -> u32
         ensures { result ≡ count_by (is_unhandled_of job) self.now.list }
     {
-        self.items
-            .iter()
-            .filter(|kept| job_of(&kept.item) == job.0 && kept.handled.is_none())
-            .count() as u32
+        self.tally(job.0).unhandled
     }
 
     /// The greatest number of an unhandled item of the job.
     pub fn last_unhandled(&self, job: Job) -> Option<u32>
         ensures { result ≡ last_place (is_unhandled_of job) 0 self.now.list }
     {
-        let mut last = None;
-        for (i, kept) in self.items.iter().enumerate() {
-            last = last_with(last, i as u32, kept, job);
+        let span = self.span(job.0);
+        let mut i = span.left;
+        'items: while i > span.first {
+            i -= 1;
+            if is_unhandled(&self.items[i as usize], job) {
+                return Some(i);
+            }
         }
-        last
+        None
+    }
+
+    /// The least number, from this one on, of an item of the job that was not put back. Looks only where items of the
+    /// job stand, and not at all where each of them was put back.
+    pub fn next_unput(&self, job: Job, from: u32) -> Option<u32>
+        ensures { result ≡ first_unput job from (drop from self.now.list) }
+    {
+        if self.put(job) == self.of_job(job) {
+            return None;
+        }
+        let span = self.span(job.0);
+        let mut i = from.max(span.first);
+        'items: while i < span.end {
+            if is_unput(&self.items[i as usize], job) {
+                return Some(i);
+            }
+            i += 1;
+        }
+        None
     }
 
     /// What the unhandled items of the job count once it is restored.
@@ -168,19 +234,22 @@ impl Items {
         requires { sum_by (weight_of job) self.now.list < 2 ^ 32 }
         ensures { result ≡ sum_by (weight_of job) self.now.list }
     {
-        let mut sum = 0;
-        for kept in &self.items {
-            let more = weight(job, kept);
-            sum += more;
-        }
-        sum
+        self.tally(job.0).weight as u32
     }
 
     /// Whether each object item of the job with this id and birth is handled.
     pub fn end_handled(&self, job: Job, id: ObjectId, birth: u32) -> bool
         ensures { result ≡ end_handled self.now.list job id birth }
     {
-        all_handled(&self.items, job, id, birth)
+        let span = self.span(job.0);
+        let mut i = span.end;
+        'items: while i > span.first {
+            i -= 1;
+            if !is_handled_end(&self.items[i as usize], job, id, birth) {
+                return false;
+            }
+        }
+        true
     }
 
     /// The listed item of the job at this place, by falling item number.
@@ -188,8 +257,9 @@ impl Items {
         ensures { result ≡ slice_get (listed_from job 0 self.now.list) place }
     {
         let mut left = place;
-        let mut i = self.items.len();
-        while i > 0 {
+        let span = self.span(job.0);
+        let mut i = span.end as usize;
+        while i > span.first as usize {
             i -= 1;
             let found = listing(job, i as u32, &self.items[i]);
             if is_asked(&found, left) {
@@ -201,6 +271,40 @@ impl Items {
     }
 }
 
+/// Notes the tally of the job that starts here.
+fn keep(tallies: &mut HashMap<u32, Tally>, job: u32, tally: Tally)
+    requires { 0 < spare tallies.old }
+    ensures value { (other : ℕ) → get nat_eq tallies.new other ≡ cond (nat_eq job other) (Some tally) (get nat_eq tallies.old other) }
+    ensures spare { spare tallies.old ≤ spare tallies.new + 1 }
+{
+    match tallies.insert(job, tally) {
+        Ok(_) => {}
+        Err(_) => unreachable!(),
+    }
+}
+
+/// Where the items of the job that starts here stand.
+fn span_in(spans: &HashMap<u32, Span>, job: u32) -> Span
+    ensures { result ≡ unwrap_or (get nat_eq spans.now job) empty_span }
+{
+    match spans.get(&job) {
+        Some(span) => *span,
+        None => no_span(),
+    }
+}
+
+/// Notes where the items of the job that starts here stand.
+fn keep_span(spans: &mut HashMap<u32, Span>, job: u32, span: Span)
+    requires { 0 < spare spans.old }
+    ensures value { (other : ℕ) → get nat_eq spans.new other ≡ cond (nat_eq job other) (Some span) (get nat_eq spans.old other) }
+    ensures spare { spare spans.old ≤ spare spans.new + 1 }
+{
+    match spans.insert(job, span) {
+        Ok(_) => {}
+        Err(_) => unreachable!(),
+    }
+}
+
 fn job_of(item: &Item) -> u32
     ensures { result ≡ job_of_item item.now }
 {
@@ -208,14 +312,6 @@ fn job_of(item: &Item) -> u32
         Item::Object { job, .. } => job.0,
         Item::Edge { job, .. } => job.0,
     }
-}
-
-fn all_handled(items: &[Kept], job: Job, id: ObjectId, birth: u32) -> bool
-    ensures { result ≡ list_all (λ (kept : Kept). is_handled_end_of job id birth (logged_of kept)) items.now }
-{
-    items
-        .iter()
-        .all(|kept| is_handled_end(kept, job, id, birth))
 }
 
 /// Whether the item is handled, or is no object item of the job with this id and birth.
@@ -230,7 +326,7 @@ fn is_handled_end(kept: &Kept, job: Job, id: ObjectId, birth: u32) -> bool
     }
 }
 
-fn is_object(item: &Item) -> bool
+pub fn is_object(item: &Item) -> bool
     ensures { result ≡ is_object_item item.now }
 {
     match item {
@@ -239,7 +335,7 @@ fn is_object(item: &Item) -> bool
     }
 }
 
-fn was_put(handled: &Option<Handling>) -> bool
+pub fn was_put(handled: &Option<Handling>) -> bool
     ensures { result ≡ was_put_back (option_map handled_of handled.now) }
 {
     match handled {
@@ -248,7 +344,7 @@ fn was_put(handled: &Option<Handling>) -> bool
     }
 }
 
-fn was_listed(handled: &Option<Handling>) -> bool
+pub fn was_listed(handled: &Option<Handling>) -> bool
     ensures { result ≡ was_listed_so (option_map handled_of handled.now) }
 {
     match handled {
@@ -267,14 +363,18 @@ fn is_asked(found: &Option<Listed>, left: u32) -> bool
     }
 }
 
-/// This number where its item is an unhandled one of the job, else what was found before.
-fn last_with(last: Option<u32>, i: u32, kept: &Kept, job: Job) -> Option<u32>
-    ensures { result ≡ cond (is_unhandled_of job (logged_of kept.now)) (Some i) last }
+/// Whether the item is an unhandled one of the job.
+fn is_unhandled(kept: &Kept, job: Job) -> bool
+    ensures { result ≡ is_unhandled_of job (logged_of kept.now) }
 {
-    if job_of(&kept.item) == job.0 && kept.handled.is_none() {
-        return Some(i);
-    }
-    last
+    job_of(&kept.item) == job.0 && kept.handled.is_none()
+}
+
+/// Whether the item is one of the job that was not put back.
+fn is_unput(kept: &Kept, job: Job) -> bool
+    ensures { result ≡ is_unput_of job (logged_of kept.now) }
+{
+    job_of(&kept.item) == job.0 && !was_put(&kept.handled)
 }
 
 /// How many lines are still to be passed after one that may be there.
@@ -307,13 +407,4 @@ fn listing(job: Job, i: u32, kept: &Kept) -> Option<Listed>
         }),
         _ => None,
     }
-}
-
-fn weight(job: Job, kept: &Kept) -> u32
-    ensures { result ≡ weight_of job (logged_of kept.now) }
-{
-    if job_of(&kept.item) != job.0 || kept.handled.is_some() {
-        return 0;
-    }
-    if is_object(&kept.item) { 4 } else { 2 }
 }

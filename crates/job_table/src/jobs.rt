@@ -1,6 +1,7 @@
-ghost use Rattle.std.specs.Prelude.{◌≡◌, ◌+◌, ◌<◌, ◌≤◌, ◌^◌, ◌++◌, ◌∷◌, [], OnOk, length, slice_get, slice_index_or, option_map, map, cond, count_by, nat_eq, false, true, Some, ℕ, IsTrue};
-ghost use Rattle.std.specs.List.{position};
-ghost use Rattle.job_table.specs.Parts.{row_of, changed_first, is_start, starts_before, was_restored, has_restore};
+ghost use Rattle.std.specs.Prelude.{◌≡◌, ◌+◌, ◌<◌, ◌≤◌, ◌^◌, ◌++◌, ◌∷◌, [], OnOk, length, slice_get, slice_index_or, option_map, map, cond, nat_eq, nat_lt, false, true, Some, ℕ, IsTrue};
+ghost use Rattle.std.specs.List.{position, list_any};
+ghost use Rattle.job_table.specs.Waits.{has_waited as has_waited_row};
+ghost use Rattle.job_table.specs.Parts.{row_of, changed_first, is_start, starts_before};
 ghost use Rattle.std.specs.HashMap.{get, spare};
 ghost use Rattle.delf_model.specs.declared.ids.JobName.{JobName};
 ghost use Rattle.delf_model.specs.State.{same_name as is_same_name};
@@ -8,9 +9,11 @@ ghost use Rattle.job_table.specs.declared.jobs.Row.{Row as RowValue};
 ghost use Rattle.job_table.specs.Table.{starts_rise};
 ghost use Rattle.delf_model.specs.State.{job_row, find_job, new_job, starts_at, restored_at, purged_if, erased_at};
 
+use crate::queue::{enter, first};
+use crate::waiting::{leave_purged, wait_anew};
 use delf_model::{Job, JobName, Moment, ObjectId};
 use std::alloc::{AllocError, Global};
-use std::collections::HashMap;
+use std::collections::{HashMap, VecDeque};
 use std::marker::Model;
 
 /// A job: the position of its start, its root and name, the position of its Restore, whether it is purged, and the
@@ -25,13 +28,14 @@ pub struct Row {
     pub last: Option<Moment>,
 }
 
-/// The jobs of a history by age, the latest job of each name, and how many jobs have a Restore.
+/// The jobs of a history by age, the latest job of each name, the jobs that are not purged by the moment of their last erasure, and a place in front of which all are purged.
 #[derive(Drop)]
 pub struct Jobs {
     rows: Vec<Row>,
     named: HashMap<u32, u32>,
     expiries: HashMap<u64, u32>,
-    restored: u64,
+    waiting: VecDeque<(Job, Moment)>,
+    front: usize,
     spare: u32,
 }
 
@@ -40,12 +44,14 @@ impl Model for Jobs {
     ghost use Rattle.std.specs.HashMap.{get, spare as room_of};
     ghost use Rattle.job_table.specs.Parts.{JobPart, row_of};
     ghost use Rattle.job_table.specs.JobsFit.{JobsFit};
+    ghost use Rattle.job_table.specs.Waits.{WaitsFit};
+    ghost use Rattle.std.specs.VecDeque.{deque_capacity};
 
     ghost Value = { JobPart };
 
     ghost view = { λ l. record { list = map row_of l.rows.items; spare = l.spare } };
 
-    ghost invariant = { λ l. JobsFit l.rows.items (get nat_eq l.named) (get nat_eq l.expiries) l.restored (vec_capacity l.rows) (room_of l.named) (room_of l.expiries) l.spare };
+    ghost invariant = { λ l. JobsFit l.rows.items (get nat_eq l.named) (get nat_eq l.expiries) (vec_capacity l.rows) (room_of l.named) (room_of l.expiries) l.spare × WaitsFit l.rows.items l.waiting.items (deque_capacity l.waiting) l.front l.spare };
 }
 
 impl Jobs {
@@ -56,7 +62,8 @@ impl Jobs {
             rows: Vec::new(alloc),
             named: HashMap::new(alloc),
             expiries: HashMap::new(alloc),
-            restored: 0,
+            waiting: VecDeque::new(alloc),
+            front: 0,
             spare: 0,
         }
     }
@@ -72,6 +79,7 @@ impl Jobs {
         self.rows.reserve(n as usize)?;
         self.named.reserve(n as usize)?;
         self.expiries.reserve(n as usize)?;
+        self.waiting.reserve(n as usize)?;
         self.spare = n;
         Ok(())
     }
@@ -85,6 +93,7 @@ impl Jobs {
         ensures spare { self.new.spare + 1 ≡ self.old.spare }
     {
         note_name(&mut self.named, &mut self.expiries, &name, start.0);
+        enter(&mut self.waiting, start, 0);
         self.rows.push_reserved(Row {
             start,
             root,
@@ -96,18 +105,29 @@ impl Jobs {
         self.spare -= 1;
     }
 
-    /// How many jobs have a Restore.
-    pub fn restored(&self) -> u64
-        ensures { result ≡ count_by has_restore self.now.list }
-    {
-        self.restored
-    }
-
     /// The rows, by age.
     pub fn rows(&self) -> &[Row]
         ensures { map row_of result.now ≡ self.now.list }
     {
         &self.rows
+    }
+
+    /// A place in front of which all jobs are purged.
+    pub fn front(&self) -> usize
+        ensures within { result ≤ length self.now.list }
+        ensures purged { (k : ℕ) (d : RowValue) → k < result → (slice_index_or self.now.list k (row_of d)).purged ≡ true }
+    {
+        self.front
+    }
+
+    /// Whether the window of some job that is not purged is over.
+    pub fn has_waited(&self, window: u32, moment: Moment) -> bool
+        ensures { result ≡ false → list_any (has_waited_row window moment) self.now.list ≡ false }
+    {
+        match first(&self.waiting) {
+            Some(pair) => is_past(pair.1, window, moment),
+            None => false,
+        }
     }
 
     pub fn at(&self, i: u32) -> Option<Row>
@@ -146,11 +166,7 @@ impl Jobs {
         ensures spare { self.new.spare ≡ self.old.spare }
     {
         match place(&self.rows, job) {
-            Some(i) => {
-                let more = first_restore(&self.rows[i]);
-                self.restored += more;
-                self.rows[i].restored = Some(at);
-            }
+            Some(i) => self.rows[i].restored = Some(at),
             None => {}
         }
     }
@@ -161,7 +177,11 @@ impl Jobs {
         ensures spare { self.new.spare ≡ self.old.spare }
     {
         match place(&self.rows, job) {
-            Some(i) => self.rows[i].purged = true,
+            Some(i) => {
+                leave_purged(&mut self.waiting, &self.rows[i]);
+                self.rows[i].purged = true;
+                self.front = first_kept(&self.rows, self.front);
+            }
             None => {}
         }
     }
@@ -172,7 +192,10 @@ impl Jobs {
         ensures spare { self.new.spare ≡ self.old.spare }
     {
         match place(&self.rows, job) {
-            Some(i) => self.rows[i].last = Some(moment),
+            Some(i) => {
+                wait_anew(&mut self.waiting, &self.rows[i], moment);
+                self.rows[i].last = Some(moment);
+            }
             None => {}
         }
     }
@@ -204,16 +227,6 @@ fn note_name(
     }
 }
 
-/// How many more jobs have a Restore once this one has.
-fn first_restore(row: &Row) -> u64
-    ensures { result ≡ cond (was_restored row.now) 0 1 }
-{
-    match row.restored {
-        Some(_) => 0,
-        None => 1,
-    }
-}
-
 /// The place of the job that starts at this position; rows go by rising start.
 fn place(rows: &[Row], job: Job) -> Option<usize>
     requires { IsTrue (starts_rise 0 4294967296 (map row_of rows.now)) }
@@ -227,6 +240,30 @@ fn place(rows: &[Row], job: Job) -> Option<usize>
         return Some(i);
     }
     None
+}
+
+/// The place of the first row from here on that is not purged.
+fn first_kept(rows: &[Row], from: usize) -> usize
+    requires within { from ≤ length rows.now }
+    requires purged { (k : ℕ) (d : RowValue) → k < from → (slice_index_or rows.now k d).purged ≡ true }
+    ensures within { result ≤ length rows.now }
+    ensures purged { (k : ℕ) (d : RowValue) → k < result → (slice_index_or rows.now k d).purged ≡ true }
+{
+    let mut i = from;
+    'rows: while i < rows.len() {
+        if !rows[i].purged {
+            return i;
+        }
+        i += 1;
+    }
+    i
+}
+
+/// Whether the window after a last erasure is over.
+pub fn is_past(last: Moment, window: u32, moment: Moment) -> bool
+    ensures { result ≡ nat_lt (last + window) moment }
+{
+    moment > window as u64 && last < moment - window as u64
 }
 
 fn is_job(row: &Row, job: Job) -> bool

@@ -1,4 +1,4 @@
-ghost use Rattle.std.specs.Prelude.{◌≡◌, ◌+◌, Some, nat_lt, nat_le, slice_get, sum_by};
+ghost use Rattle.std.specs.Prelude.{◌≡◌, ◌+◌, Some, nat_le, slice_get, sum_by};
 ghost use Rattle.delf_model.specs.declared.entry.What.{What};
 ghost use Rattle.delf_model.specs.declared.entry.Tag.{Tag};
 ghost use Rattle.delf_model.specs.State.{State, job_of as job_of_item, job_row, find_job, is_job, is_open as is_open_row, is_restored as is_restored_in};
@@ -9,21 +9,14 @@ ghost use Rattle.job_table.specs.Notes.{weight_of};
 ghost use Rattle.job_table.specs.Allowed.{is_still, can_restore, can_purge};
 
 use crate::items::Kept;
-use crate::jobs::Row;
+use crate::jobs::{Row, is_past};
 use crate::table::JobTable;
 use delf_model::{Item, Job, Moment, Status};
 
 /// The greatest number of entries that are made and owed.
 const ROOM: u32 = 500_000;
 
-/// Whether the window after the last erasure is over.
-fn is_past(last: Moment, window: u32, moment: Moment) -> bool
-    ensures { result ≡ nat_lt (last + window) moment }
-{
-    moment > window as u64 && last < moment - window as u64
-}
-
-fn job_of(item: &Item) -> Job
+pub(crate) fn job_of(item: &Item) -> Job
     ensures { result ≡ job_of_item item.now }
 {
     match item {

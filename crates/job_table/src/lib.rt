@@ -9,9 +9,15 @@ mod jobs;
 mod legal;
 mod next;
 mod owners;
+mod payloads;
+mod queue;
+mod restoring;
 mod seats;
 mod serial;
+mod spans;
 mod table;
+mod tallies;
+mod waiting;
 
 pub use next::Next;
 pub use table::JobTable;

@@ -1,17 +1,18 @@
-ghost use Rattle.std.specs.Prelude.{◌≡◌, ◌<◌, ◌≤◌, ◌^◌, ◌&&◌, ◌||◌, not, None, Some, ℕ, nat_lt, ◌+◌, find, IsTrue};
-ghost use Rattle.std.specs.List.{position, list_any};
+ghost use Rattle.std.specs.Prelude.{◌≡◌, ◌<◌, ◌≤◌, ◌^◌, None, Some, ℕ, nat_lt, ◌+◌, find, false, slice_index_or, IsTrue};
+ghost use Rattle.std.specs.List.{position};
 ghost use Rattle.delf_model.specs.State.{State, first_of_two};
-ghost use Rattle.delf_model.specs.Order.{first_put as put_of_state, first_erasure as erasure_of_state, first_expiry as expiry_of_state, first_purge as purge_of_state, first_step, is_no_older, put_of as put_of_place, last_place, cut_or_erase as cut_or_erase_of};
+ghost use Rattle.delf_model.specs.Order.{first_put as put_of_state, first_erasure as erasure_of_state, first_expiry as expiry_of_state, first_purge as purge_of_state, first_step, put_of as put_of_place, last_place, cut_or_erase as cut_or_erase_of};
 ghost use Rattle.job_table.specs.Table.{IsTableOf, IsGraphOf};
 ghost use Rattle.job_table.specs.Apart.{are_apart};
 ghost use Rattle.job_table.specs.Items.{is_unhandled_of};
 ghost use Rattle.delf_model.specs.Graph.{out_edges, in_edges};
 ghost use Rattle.delf_model.specs.declared.entry.What.{What};
-ghost use Rattle.job_table.specs.Serial.{left_in as left_of_row, restoring_in, is_elder as is_elder_row, is_oldest_in, purges_in};
+ghost use Rattle.job_table.specs.Serial.{left_in as left_of_row, purges_in};
 ghost use Rattle.job_table.specs.Owning.{has_row, pairs_rise};
+ghost use Rattle.job_table.specs.declared.jobs.Row.{Row as RowValue};
 
 use crate::items::Items;
-use crate::jobs::Row;
+use crate::jobs::{Row, is_past};
 use crate::owners::Owners;
 use crate::table::JobTable;
 use delf_model::{EdgeRow, GraphStore, Job, Moment, ObjectId, Rules, What};
@@ -26,48 +27,6 @@ fn left(items: &Items, row: &Row) -> u32
     }
 }
 
-fn is_restoring(items: &Items, row: &Row) -> bool
-    ensures { result ≡ restoring_in items.now.list row.now }
-{
-    row.restored.is_some() && left(items, row) > 0
-}
-
-fn is_younger(first: Option<u32>, other: Option<u32>) -> bool
-    ensures { result ≡ is_no_older first other }
-{
-    match first {
-        None => true,
-        Some(first) => match other {
-            None => false,
-            Some(other) => first <= other,
-        },
-    }
-}
-
-fn is_elder(items: &Items, row: &Row, other: &Row) -> bool
-    ensures { result ≡ is_elder_row items.now.list row.now other.now }
-{
-    is_restoring(items, other) && !is_younger(row.restored, other.restored)
-}
-
-fn has_elder(rows: &[Row], items: &Items, row: &Row) -> bool
-    ensures { result ≡ list_any (is_elder_row items.now.list row.now) rows.now }
-{
-    rows.iter().any(|other| is_elder(items, row, other))
-}
-
-fn is_oldest(rows: &[Row], items: &Items, row: &Row) -> bool
-    ensures { result ≡ is_oldest_in rows.now items.now.list row.now }
-{
-    is_restoring(items, row) && !has_elder(rows, items, row)
-}
-
-fn place_of_oldest(rows: &[Row], items: &Items) -> Option<usize>
-    ensures { result ≡ position (is_oldest_in rows.now items.now.list) rows.now }
-{
-    rows.iter().position(|row| is_oldest(rows, items, row))
-}
-
 fn is_over(owners: &Owners, items: &Items, window: u32, moment: Moment, row: &Row) -> bool
     ensures { result ≡ purges_in owners.now.list items.now.list window moment row.now }
 {
@@ -80,23 +39,26 @@ fn is_over(owners: &Owners, items: &Items, window: u32, moment: Moment, row: &Ro
         && is_past(row.last.unwrap_or(0), window, moment)
 }
 
-fn is_past(last: Moment, window: u32, moment: Moment) -> bool
-    ensures { result ≡ nat_lt (last + window) moment }
-{
-    moment > window as u64 && last < moment - window as u64
-}
-
+/// The place of the first job that may be purged, where none in front of this place may.
 fn place_to_purge(
     rows: &[Row],
     owners: &Owners,
     items: &Items,
+    front: usize,
     window: u32,
     moment: Moment,
 ) -> Option<usize>
+    requires { (k : ℕ) (d : RowValue) → k < front → purges_in owners.now.list items.now.list window moment (slice_index_or rows.now k d) ≡ false }
     ensures { result ≡ position (purges_in owners.now.list items.now.list window moment) rows.now }
 {
-    rows.iter()
-        .position(|row| is_over(owners, items, window, moment, row))
+    let mut i = front;
+    'rows: while i < rows.len() {
+        if is_over(owners, items, window, moment, &rows[i]) {
+            return Some(i);
+        }
+        i += 1;
+    }
+    None
 }
 
 /// The step that takes the first edge of the object, else the object itself.
@@ -150,12 +112,8 @@ impl JobTable {
     fn first_put(&self) -> Option<What>
         ensures { (s : State) → IsTableOf s self.now → result ≡ put_of_state s }
     {
-        if self.jobs.restored() == 0 {
-            return None;
-        }
-        let rows = self.jobs.rows();
-        match place_of_oldest(rows, &self.items) {
-            Some(i) => self.put_of(rows[i].start),
+        match self.restoring.first() {
+            Some(pair) => self.put_of(pair.0),
             None => None,
         }
     }
@@ -202,8 +160,12 @@ impl JobTable {
     pub(crate) fn first_purge(&self, window: u32, moment: Moment) -> Option<What>
         ensures { (s : State) → IsTableOf s self.now → window ≡ s.rules.window → result ≡ purge_of_state s moment }
     {
+        if !self.jobs.has_waited(window, moment) {
+            return None;
+        }
         let rows = self.jobs.rows();
-        match place_to_purge(rows, &self.owners, &self.items, window, moment) {
+        let front = self.jobs.front();
+        match place_to_purge(rows, &self.owners, &self.items, front, window, moment) {
             Some(i) => Some(What::Purge { job: rows[i].start }),
             None => None,
         }

@@ -15,6 +15,7 @@ use crate::items::Items;
 use crate::jobs::{Jobs, Row};
 use crate::next::Next;
 use crate::owners::Owners;
+use crate::restoring::Restoring;
 use crate::seats::Seats;
 use delf_model::{
     Cause, Entry, GraphStore, Item, Job, JobLine, JobName, Listed, Moment, ObjectId, Rules, Status,
@@ -35,18 +36,20 @@ pub struct JobTable {
     pub(crate) jobs: Jobs,
     pub(crate) seats: Seats,
     pub(crate) claims: Claims,
+    pub(crate) restoring: Restoring,
     pub(crate) spare: u32,
 }
 
 impl Model for JobTable {
     ghost use Rattle.job_table.specs.Table.{Table};
     ghost use Rattle.job_table.specs.Fits.{Fits};
+    ghost use Rattle.job_table.specs.Restoring.{AreRestoring};
 
     ghost Value = { Table };
 
     ghost view = { λ t. record { len = t.len; moment = t.moment; owed = t.owed; owners = t.owners.list; items = t.items.list; jobs = t.jobs.list; seats = t.seats.list; held = t.claims.list; spare = t.spare } };
 
-    ghost invariant = { λ t. Fits t.len t.owed t.spare t.owners t.items t.jobs t.seats t.claims };
+    ghost invariant = { λ t. Fits t.len t.owed t.spare t.owners t.items t.jobs t.seats t.claims t.restoring × AreRestoring t.jobs.list t.items.list t.restoring.list };
 }
 
 impl JobTable {
@@ -65,6 +68,7 @@ impl JobTable {
             jobs: Jobs::new(alloc),
             seats: Seats::new(alloc),
             claims: Claims::new(alloc),
+            restoring: Restoring::new(alloc),
             spare: 0,
         }
     }
@@ -87,6 +91,7 @@ impl JobTable {
         self.jobs.reserve(n)?;
         self.seats.reserve(n)?;
         self.claims.reserve(n)?;
+        self.restoring.reserve(n)?;
         self.spare = n;
         Ok(())
     }

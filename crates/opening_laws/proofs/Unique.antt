@@ -9,12 +9,12 @@ use Rattle.delf_model.specs.declared.entry.What.TheVariants.{Create, Update, Lin
 use Rattle.delf_model.specs.RuleSet.{RuleSet}
 use Rattle.delf_model.specs.State.{State, start, step, after}
 use Rattle.delf_model.specs.Payloads.{Payloads, payload_at, is_needed, bytes_of_pair}
-use Rattle.entry_codec.specs.EntryHead.{entry_head, named_size, HasPayload, IsEntry}
+use Rattle.entry_codec.specs.EntryHead.{entry_head, named_size, HasPayload, IsEntry, AreEntries}
 use Rattle.entry_codec.specs.declared.limits.TheConstants.{LARGEST_PAYLOAD}
 use Rattle.entry_codec.proofs.Entries.{one_entry}
 use Rattle.payload_laws.specs.Holders.{record_size}
 use Rattle.store_laws.specs.Stores.{StandBut, record_sizes}
-use Rattle.opening_laws.specs.Entries.{AreEntries, SamePayloads}
+use Rattle.opening_laws.specs.Entries.{SamePayloads}
 
 abbrev is_put : What → Bool
 is_put (Put job i) = true

@@ -10,6 +10,7 @@ ghost use Rattle.delf_disk.specs.Images.{Torn};
 ghost use Rattle.gate_log.specs.Records.{Record, size_of};
 ghost use Rattle.gate_log.specs.Opening.{Starts};
 ghost use Rattle.gate_log.specs.Steps.{MayDrop, Drops, MaySettle, Settles};
+ghost use Rattle.entry_codec.specs.EntryHead.{AreEntries};
 ghost use Rattle.delf_model.specs.declared.entry.Entry.{Entry};
 ghost use Rattle.delf_model.specs.RuleSet.{RuleSet};
 ghost use Rattle.delf_model.specs.State.{after};
@@ -18,7 +19,7 @@ ghost use Rattle.delf_model.specs.Payloads.{Payloads, no_payloads};
 ghost use Rattle.store_laws.specs.Logged.{IsLog, behind, are_zeros};
 ghost use Rattle.store_laws.specs.Stores.{Hold, StandBut, Rest, Clean, Settled, journal_mark, vault_mark, journal_of, vault_of};
 ghost use Rattle.store_laws.specs.Steps.{Ahead};
-ghost use Rattle.opening_laws.specs.Entries.{AreEntries, SamePayloads};
+ghost use Rattle.opening_laws.specs.Entries.{SamePayloads};
 ghost use Rattle.opening_laws.specs.Places.{BadPlace};
 
 /// Whatever a crash leaves of the bytes behind a closed gate, the areas hold the same records, history and payloads.

@@ -1,14 +1,11 @@
--- A text that grows line by line, steps that are made one by one, and jobs found by their start.
+-- A text that grows line by line, and jobs found by their start.
 use Rattle.std.proofs.Common.{◌≡◌, ℕ, zero, suc, ◌+◌, ◌≤◌, ◌<◌, Bool, true, false, cond, eqb, Option, Some, None, List, [], ◌∷◌, ◌++◌, length, get_or, take, flat_map, refl, sym, ap, ◌∙◌, arith, add-one, append-nil}
 use Rattle.std.proofs.lemmas.List.{take_more, flat_map_more, length-take, length-map}
 use Rattle.std.proofs.lemmas.Bool.{eqb-true, eq-eqb}
 use Rattle.std.specs.Prelude.{find, map, slice_get, option_to_list}
-use Rattle.delf_model.specs.declared.entry.What.{What}
 use Rattle.delf_model.specs.declared.call.JobLine.{JobLine}
 use Rattle.delf_model.specs.State.{State, JobRow, job_row, starts_at}
 use Rattle.delf_model.specs.Report.{job_line, job_at, line_of_row}
-use Rattle.script_runner.specs.Worlds.{World}
-use Rattle.script_runner.specs.Serial.{next_step, after_step, world_worked}
 
 -- an element more, known by its place
 
@@ -48,22 +45,6 @@ pub text_grows_at : {A : Type 0} (f : A → List ℕ) (xs : List A) (i : ℕ) (x
 text_grows_at f xs i x before after line is so_far said grown =
     grown ∙ ap (λ (t : List ℕ). t ++ line) so_far ∙ ap (λ (t : List ℕ). flat_map f (take i xs) ++ t) said
     ∙ sym (flat_map-snoc f (take i xs) x) ∙ ap (flat_map f) (sym (slice_more xs i x is))
-
--- steps
-
--- where no step is left the world stays
-pub worked_idle : (n : ℕ) (w : World) → next_step w ≡ None → world_worked n w ≡ w
-unfolding world_worked
-worked_idle zero w none = refl
-worked_idle (suc n) w none = ap (λ (o : Option What). world_worked n (after_step w o)) none ∙ worked_idle n w none
-
-pub worked_none : (w : World) → world_worked 0 w ≡ w
-unfolding world_worked
-worked_none w = refl
-
-pub worked_more : (n : ℕ) (w : World) (step : Option What) → step ≡ next_step w → world_worked (suc n) w ≡ world_worked n (after_step w step)
-unfolding world_worked
-worked_more n w step is = ap (λ (o : Option What). world_worked n (after_step w o)) (sym is)
 
 -- job lines
 

@@ -1,5 +1,5 @@
 -- Lines that print no name.
-use Rattle.std.proofs.Common.{◌≡◌, ℕ, List, refl}
+use Rattle.std.proofs.Common.{◌≡◌, ℕ, List, [], refl}
 use Rattle.delf_model.specs.declared.schema.Schema.{Schema}
 use Rattle.delf_model.specs.declared.rows.ObjectRow.{ObjectRow}
 use Rattle.delf_model.specs.declared.rows.Item.{Item}
@@ -43,3 +43,8 @@ refusal_nameless schema (WindowOver last) len name other = refl
 refusal_nameless schema (Full used owed) len name other = refl
 refusal_nameless schema OutOfMemory len name other = refl
 refusal_nameless schema (DiskFault at) len name other = refl
+
+-- what is printed while the store is down has no name
+pub down_nameless : (len : ℕ) (name : List ℕ) → refusal_text (Down len) len name ≡ refusal_text (Down len) len []
+unfolding refusal_text
+down_nameless len name = refl

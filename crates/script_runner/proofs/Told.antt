@@ -8,7 +8,7 @@ use Rattle.delf_model.specs.declared.ids.JobName.{JobName}
 use Rattle.delf_model.specs.declared.call.JobLine.{JobLine}
 use Rattle.delf_model.specs.State.{State, JobRow, find_job}
 use Rattle.delf_model.specs.Report.{job_line, line_of_row, listed_from}
-use Rattle.job_report.specs.Texts.{job_text, no_job_text, jobs_text, report_text}
+use Rattle.job_report.specs.Texts.{job_text, no_job_text, jobs_text, report_text, found_text, object_text, edge_text}
 use Rattle.script_runner.specs.Serial.{row_lines, row_named, job_lines, job_text_of, jobs_lines, report_line, listed_line}
 
 told : (schema : Schema) (s : State) (name : JobName) (o : Option JobRow) (line : JobLine) (text : List ℕ) → Some line ≡ line_of_row s o →
@@ -52,3 +52,21 @@ report_told s objects edges lines o e h text objects_are edges_are lines_are o_i
     ∙ ap (λ (n : ℕ). report_text (length s.graph.objects) n h lines) (e_is ∙ ap length edges_are)
     ∙ ap (λ (n : ℕ). report_text (length s.graph.objects) (length s.graph.edges) n lines) h_is
     ∙ ap (report_text (length s.graph.objects) (length s.graph.edges) s.len) lines_are
+
+-- lines with parts that are told
+
+pub found_is : (row : ObjectRow) (text : List ℕ) (len at : ℕ) (a name x bytes : List ℕ) (o owner : Option ℕ) → text ≡ found_text len row a x o → len ≡ at → a ≡ name →
+    x ≡ bytes → o ≡ owner → text ≡ found_text at row name bytes owner
+found_is row text len at a name x bytes o owner said len_is name_is bytes_are owner_is =
+    said ∙ ap (λ (n : ℕ). found_text n row a x o) len_is ∙ ap (λ (n : List ℕ). found_text at row n x o) name_is
+    ∙ ap (λ (b : List ℕ). found_text at row name b o) bytes_are ∙ ap (λ (j : Option ℕ). found_text at row name bytes j) owner_is
+
+pub object_is : (row : ObjectRow) (text : List ℕ) (a name x bytes : List ℕ) (o owner : Option ℕ) → text ≡ object_text row a x o → a ≡ name →
+    x ≡ bytes → o ≡ owner → text ≡ object_text row name bytes owner
+object_is row text a name x bytes o owner said name_is bytes_are owner_is =
+    said ∙ ap (λ (n : List ℕ). object_text row n x o) name_is
+    ∙ ap (λ (b : List ℕ). object_text row name b o) bytes_are ∙ ap (λ (j : Option ℕ). object_text row name bytes j) owner_is
+
+pub edge_is : (row : EdgeRow) (text : List ℕ) (a name x bytes : List ℕ) → text ≡ edge_text row a x → a ≡ name → x ≡ bytes → text ≡ edge_text row name bytes
+edge_is row text a name x bytes said name_is bytes_are =
+    said ∙ ap (λ (n : List ℕ). edge_text row n x) name_is ∙ ap (λ (b : List ℕ). edge_text row name b) bytes_are

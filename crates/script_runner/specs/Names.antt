@@ -11,7 +11,7 @@ use Rattle.delf_model.specs.declared.call.Listed.{Listed}
 use Rattle.delf_model.specs.declared.call.Refusal.{Refusal}
 use Rattle.delf_model.specs.declared.call.Refusal.TheVariants as refusal
 use Rattle.delf_model.specs.declared.script.Command.{Command}
-use Rattle.delf_model.specs.declared.script.Command.TheVariants.{Submit}
+use Rattle.delf_model.specs.declared.script.Command.TheVariants.{Submit, Par}
 use Rattle.delf_model.specs.RuleSet.{RuleSet}
 
 -- the schema has a name for each type and each edge type of the rules
@@ -48,3 +48,14 @@ IsNumberedCall rules (call.Restore name) = Unit {0}
 abbrev pub IsNumberedCommand : RuleSet → Command → Type 0
 IsNumberedCommand rules (Submit asked) = IsNumberedCall rules asked
 IsNumberedCommand rules other = Unit {0}
+
+-- the schema has a name for the edge type of a call
+abbrev pub IsNamed : Schema → Call → Type 0
+IsNamed schema (call.Link edge from to payload) = edge < length schema.edges
+IsNamed schema (call.Unlink edge from to name) = edge < length schema.edges
+IsNamed schema other = Unit {0}
+
+-- no block of lanes
+abbrev pub HasNoLanes : Command → Type 0
+HasNoLanes (Par quiet workers turns lanes) = ⊥
+HasNoLanes other = Unit {0}

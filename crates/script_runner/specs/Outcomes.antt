@@ -1,24 +1,40 @@
--- What a run leaves in the sink, and why it ended, by its status.
-use Rattle.std.specs.Prelude.{◌≡◌, ℕ, ◌<◌, Bool, IsTrue, Option, Some, None, List, [], ◌∷◌, ◌++◌, ◌⊎◌, length, take, slice_get, codes}
-use Rattle.std.specs.List.{All}
+-- What a run leaves in the sink and on the disk, and why it ended, by its status.
+use Rattle.std.specs.Prelude.{◌≡◌, ℕ, ◌+◌, ◌<◌, Bool, true, false, IsTrue, Option, Some, None, List, [], ◌∷◌, ◌++◌, ◌⊎◌, length, take, slice_get, codes}
+use Rattle.delf_disk.specs.declared.area.Area.{Area}
+use Rattle.delf_disk.specs.declared.area.Area.TheVariants.{Journal, Vault}
+use Rattle.delf_disk.specs.declared.area.Order.{Order}
+use Rattle.delf_disk.specs.Areas.{Areas}
+use Rattle.delf_disk.specs.Causes.{Rose}
 use Rattle.delf_io.specs.Faults.{next_count}
+use Rattle.delf_model.specs.declared.entry.Entry.{Entry}
 use Rattle.delf_model.specs.declared.schema.Schema.{Schema}
 use Rattle.delf_model.specs.declared.script.Command.{Command}
+use Rattle.delf_model.specs.declared.script.Command.TheVariants.{Crash}
+use Rattle.delf_model.specs.RuleSet.{RuleSet}
 use Rattle.delf_model.specs.Legal.{Legal}
+use Rattle.delf_model.specs.Payloads.{Payloads}
 use Rattle.delf_model.specs.Sound.{Sound}
-use Rattle.job_report.specs.Texts.{fault_text}
+use Rattle.entry_codec.specs.EntryHead.{AreEntries}
+use Rattle.store_laws.specs.Stores.{StandBut, Settled}
+use Rattle.store_laws.specs.Moves.{RestIn}
+use Rattle.opening_laws.specs.Places.{BadPlace}
+use Rattle.job_report.specs.Texts.{fault_text, down_text, bad_journal_text, bad_vault_text}
 use Rattle.script_lang.specs.declared.fault.DocumentFault.{DocumentFault}
 use Rattle.script_lang.specs.declared.fault.DocumentFault.TheVariants as document_fault
 use Rattle.script_lang.specs.Scripts.{Fault}
 use Rattle.script_runner.specs.declared.status.Status.{Status}
-use Rattle.script_runner.specs.declared.status.Status.TheVariants.{Done, Usage, BadDocument, ReadFault, WriteFault, OutOfMemory}
+use Rattle.script_runner.specs.declared.status.Status.TheVariants.{Done, Usage, BadDocument, ReadFault, WriteFault, OutOfMemory, Down, BadStore}
 use Rattle.script_runner.specs.declared.words.Start.{Start}
 use Rattle.script_runner.specs.declared.words.Start.TheVariants.{At, Asked}
+use Rattle.script_runner.specs.declared.words.Request.{Request}
+use Rattle.script_runner.specs.declared.words.Request.TheVariants.{Run, Check, Load}
 use Rattle.script_runner.specs.declared.document.Document.{Document}
 use Rattle.script_runner.specs.Documents.{IsDocument, IsFault}
+use Rattle.script_runner.specs.Checks.{CheckText, CheckCause}
+use Rattle.script_runner.specs.Orders.{GivesAll}
 use Rattle.script_runner.specs.Requests.{moment_of_start}
-use Rattle.script_runner.specs.Worlds.{World, first_world}
-use Rattle.script_runner.specs.Serial.{IsServed, world_after, text_of, lines_of}
+use Rattle.script_runner.specs.Serial.{Serves, Script, Halts}
+use Rattle.script_runner.specs.Worlds.{World, IsHeld, Opens}
 
 abbrev pub usage_line : List ℕ
 usage_line = codes "usage: delf run [--at N] | check | load N" ++ 10 ∷ []
@@ -26,56 +42,123 @@ usage_line = codes "usage: delf run [--at N] | check | load N" ++ 10 ∷ []
 abbrev pub fault_line : Fault → List ℕ
 fault_line fault = fault_text fault.line fault.text
 
--- a document with a command that this program does not serve yet
-pub record IsUnserved (bytes : List ℕ) (fault : Fault) : Type 0 where
-  pub document : Document
-  pub read : IsDocument bytes document
-  pub unserved : All IsServed document.commands → ⊥
-  pub told : fault ≡ record { line = 0; text = codes "not served" }
-
--- the bytes are not run, for this reason
-abbrev pub IsRefused : List ℕ → Fault → Type 0
-IsRefused bytes fault = IsFault bytes fault ⊎ IsUnserved bytes fault
-
-abbrev pub IsRefusal : List ℕ → DocumentFault → Type 0
-IsRefusal bytes (document_fault.Bad line text) = IsRefused bytes (record { line = line; text = text })
-IsRefusal bytes document_fault.OutOfMemory = Unit {0}
-
 -- what was held before, then a front of this text that is not all of it
 abbrev pub IsCut : List ℕ → List ℕ → List ℕ → Type 0
 IsCut before after text = (n : ℕ) × (n < length text) × (after ≡ before ++ take n text)
-
--- the lines of the first `done` commands, then a front of those of the next
-pub record IsCutScript (schema : Schema) (w : World) (commands : List Command) (before after : List ℕ) (done : ℕ) : Type 0 where
-  pub command : Command
-  pub there : slice_get commands done ≡ Some command
-  pub cut : IsCut (before ++ text_of schema w (take done commands)) after (lines_of schema (world_after w (take done commands)) command)
 
 -- the history of a world is legal, and what every legal history is
 pub record HasSound (w : World) : Type 0 where
   pub legal : Legal w.rules w.history
   pub sound : Sound w.rules w.history
 
--- all the text of the commands, and what it tells of their history
-pub record IsWhole (schema : Schema) (w : World) (commands : List Command) (before after : List ℕ) : Type 0 where
-  pub text : after ≡ before ++ text_of schema w commands
-  pub history : HasSound (world_after w commands)
+-- Commands that were made one after the other from a first world on: their text, the counts of the disk's faults at its ends,
+-- and the world that they lead to.
+pub record Ran (schema : Schema) (first : World) (commands : List Command) (before : ℕ) : Type 0 where
+  pub text : List ℕ
+  pub now : ℕ
+  pub last : World
+  pub script : Script schema first commands before now text last
 
--- the sink after commands from a world on, by the status that they ended with
-abbrev pub ScriptText : Schema → World → List Command → List ℕ → List ℕ → Status → Type 0
-ScriptText schema w commands before after Done = IsWhole schema w commands before after
-ScriptText schema w commands before after Usage = ⊥
-ScriptText schema w commands before after (BadDocument line) = ⊥
-ScriptText schema w commands before after ReadFault = ⊥
-ScriptText schema w commands before after (WriteFault done) = IsCutScript schema w commands before after done
-ScriptText schema w commands before after (OutOfMemory done) = after ≡ before ++ text_of schema w (take done commands)
+-- all were made, and then the store was settled
+pub record IsWhole (schema : Schema) (first : World) (commands : List Command) (start now : ℕ) (images : Areas → Type 0) (before after : List ℕ) : Type 0 where
+  pub ran : Ran schema first commands start
+  pub count : now ≡ ran.now
+  pub up : ran.last.down ≡ false
+  pub text : after ≡ before ++ ran.text
+  pub history : HasSound ran.last
+  pub settled : (c : Areas) → images c → Settled ran.last.rules ran.last.history c
+  pub rests : RestIn ran.last.rules ran.last.history ran.last.payloads images
 
--- the bytes are a document that is served, and the sink is as its script leaves it from this moment on
-pub record RunsDocument (bytes : List ℕ) (moment : ℕ) (before after : List ℕ) (status : Status) : Type 0 where
+-- the sink failed in the lines of the command numbered `done`, or where its opening, or the last settling, met a disk fault, in
+-- the line of that fault
+pub data IsCutScript (schema : Schema) (first : World) (commands : List Command) (start now : ℕ) (images : Areas → Type 0) (before after : List ℕ) (done : ℕ) : Type 0 where
+  InLines : (ran : Ran schema first (take done commands) start) (command : Command) (line : List ℕ) (next : World) → slice_get commands done ≡ Some command →
+      Serves schema ran.last command ran.now now line next → IsCut (before ++ ran.text) after line → IsHeld next images →
+      IsCutScript schema first commands start now images before after done
+  InOpening : (ran : Ran schema first (take done commands) start) (pick : ℕ) → slice_get commands done ≡ Some (Crash pick) → Rose ran.now now →
+      IsCut (before ++ ran.text) after (down_text 0) → IsHeld ran.last images → IsCutScript schema first commands start now images before after done
+  InSettling : (ran : Ran schema first commands start) → done ≡ length commands → ran.last.down ≡ false → Rose ran.now now →
+      IsCut (before ++ ran.text) after (down_text (length ran.last.history)) → IsHeld ran.last images →
+      IsCutScript schema first commands start now images before after done
+
+-- memory was wanting after the first `done` commands: the disk stands for the world after them, or for it with some of the next one
+pub record IsStarved (schema : Schema) (first : World) (commands : List Command) (start : ℕ) (images : Areas → Type 0) (before after : List ℕ) (done : ℕ) : Type 0 where
+  pub ran : Ran schema first (take done commands) start
+  pub text : after ≡ before ++ ran.text
+  pub next : World
+  pub halts : (next ≡ ran.last) ⊎ ((command : Command) × ((slice_get commands done ≡ Some command) × Halts command ran.last next))
+  pub held : IsHeld next images
+
+-- the store was down after all commands, or the last settling or an opening met a disk fault
+pub data IsDown (schema : Schema) (first : World) (commands : List Command) (start now : ℕ) (images : Areas → Type 0) (before after : List ℕ) (len : ℕ) : Type 0 where
+  AtEnd : (ran : Ran schema first commands start) → now ≡ ran.now → ran.last.down ≡ true → len ≡ length ran.last.history → after ≡ before ++ ran.text →
+      IsHeld ran.last images → IsDown schema first commands start now images before after len
+  InSettling : (ran : Ran schema first commands start) → Rose ran.now now → ran.last.down ≡ false → len ≡ length ran.last.history →
+      after ≡ before ++ ran.text ++ down_text len → IsHeld ran.last images → IsDown schema first commands start now images before after len
+  InOpening : (n pick : ℕ) (ran : Ran schema first (take n commands) start) → slice_get commands n ≡ Some (Crash pick) → Rose ran.now now → len ≡ 0 →
+      after ≡ before ++ ran.text ++ down_text 0 → IsHeld ran.last images → IsDown schema first commands start now images before after len
+
+-- the sink and the disk after commands from a world on, by the status that they ended with
+abbrev pub ScriptText : Schema → World → List Command → ℕ → ℕ → (Areas → Type 0) → List ℕ → List ℕ → Status → Type 0
+ScriptText schema first commands start now images before after Done = IsWhole schema first commands start now images before after
+ScriptText schema first commands start now images before after Usage = ⊥
+ScriptText schema first commands start now images before after (BadDocument line) = ⊥
+ScriptText schema first commands start now images before after ReadFault = ⊥
+ScriptText schema first commands start now images before after (WriteFault done) = IsCutScript schema first commands start now images before after done
+ScriptText schema first commands start now images before after (OutOfMemory done) = IsStarved schema first commands start images before after done
+ScriptText schema first commands start now images before after (Down len) = IsDown schema first commands start now images before after len
+ScriptText schema first commands start now images before after (BadStore area at) = ⊥
+
+-- Why the first opening found no store: a place is bad. Nothing that the areas may stand for has one.
+pub record IsBad (rules : RuleSet) (seen : Areas) (area : Area) (at : ℕ) : Type 0 where
+  pub place : BadPlace rules seen area at
+  pub stands_not : (history : List Entry) (e : Payloads) → AreEntries history → StandBut rules history e seen → ⊥
+
+abbrev pub bad_text : Area → ℕ → List ℕ
+bad_text Journal at = bad_journal_text at
+bad_text Vault at = bad_vault_text at
+
+-- after a first opening that failed the disk stands for what read at the start
+abbrev pub StillStands : RuleSet → Areas → (Areas → Type 0) → (Areas → Type 0) → Type 0
+StillStands rules seen first images =
+    (history : List Entry) (e : Payloads) → AreEntries history → StandBut rules history e seen → (c : Areas) → images c →
+    first c ⊎ StandBut rules history e c
+
+-- the opening found this world, and sink and disk are as the commands leave them
+pub record RunsScript (document : Document) (moment : ℕ) (seen : Areas) (start now : ℕ) (images : Areas → Type 0) (before after : List ℕ)
+    (status : Status) : Type 0 where
+  pub first : World
+  pub opens : Opens document.rules moment seen first
+  pub text : ScriptText document.schema first document.commands start now images before after status
+
+-- a line of the first opening did not go out whole
+abbrev pub CutsOpening : Document → Areas → (Areas → Type 0) → ℕ → ℕ → (Areas → Type 0) → List ℕ → List ℕ → Type 0
+CutsOpening document seen first start now images before after =
+    (IsCut before after (down_text 0) × Rose start now × StillStands document.rules seen first images)
+    ⊎ ((area : Area) × ((at : ℕ) × (IsBad document.rules seen area at × IsCut before after (bad_text area at))))
+
+-- sink and disk after a document was accepted, by the bytes that read and the images at the start, the counts of faults, and
+-- the images at the end
+abbrev pub DocumentText : Document → ℕ → Areas → (Areas → Type 0) → ℕ → ℕ → (Areas → Type 0) → List ℕ → List ℕ → Status → Type 0
+DocumentText document moment seen first start now images before after (WriteFault done) =
+    ((done ≡ 0) × CutsOpening document seen first start now images before after)
+    ⊎ RunsScript document moment seen start now images before after (WriteFault done)
+DocumentText document moment seen first start now images before after (OutOfMemory done) =
+    ((done ≡ 0) × (after ≡ before) × StillStands document.rules seen first images)
+    ⊎ RunsScript document moment seen start now images before after (OutOfMemory done)
+DocumentText document moment seen first start now images before after (Down len) =
+    ((len ≡ 0) × Rose start now × (after ≡ before ++ down_text 0) × StillStands document.rules seen first images)
+    ⊎ RunsScript document moment seen start now images before after (Down len)
+DocumentText document moment seen first start now images before after (BadStore area at) =
+    IsBad document.rules seen area at × (after ≡ before ++ bad_text area at)
+DocumentText document moment seen first start now images before after status =
+    RunsScript document moment seen start now images before after status
+
+-- these bytes are some document, of which this holds
+pub record OfDocument (bytes : List ℕ) (P : Document → Type 0) : Type 0 where
   pub document : Document
   pub read : IsDocument bytes document
-  pub served : All IsServed document.commands
-  pub text : ScriptText document.schema (first_world document.rules moment) document.commands before after status
+  pub holds : P document
 
 -- a line before the first command that did not go out whole
 abbrev pub CutLine : List ℕ → List ℕ → List ℕ → ℕ → Type 0
@@ -91,38 +174,42 @@ FaultText told before after ReadFault = ⊥
 FaultText told before after (WriteFault done) =
     (line : ℕ) × ((text : List ℕ) × (told ≡ document_fault.Bad line text) × CutLine (fault_text line text) before after done)
 FaultText told before after (OutOfMemory done) = (done ≡ 0) × (after ≡ before)
+FaultText told before after (Down len) = ⊥
+FaultText told before after (BadStore area at) = ⊥
 
 abbrev pub FaultCause : DocumentFault → Type 0 → Status → Type 0
 FaultCause told write_rose Done = ⊥
 FaultCause told write_rose Usage = ⊥
 FaultCause told write_rose (BadDocument line) = (text : List ℕ) × (told ≡ document_fault.Bad line text)
 FaultCause told write_rose ReadFault = ⊥
-FaultCause told write_rose (WriteFault done) = write_rose
-FaultCause told write_rose (OutOfMemory done) = Unit {0}
+FaultCause told write_rose (WriteFault done) = (done ≡ 0) × write_rose
+FaultCause told write_rose (OutOfMemory done) = done ≡ 0
+FaultCause told write_rose (Down len) = ⊥
+FaultCause told write_rose (BadStore area at) = ⊥
 
 -- the line of the fault for which the bytes are not run
 pub record TellsFault (bytes : List ℕ) (line : ℕ) (before after : List ℕ) : Type 0 where
   pub fault : Fault
-  pub refused : IsRefused bytes fault
+  pub refused : IsFault bytes fault
   pub line_is : line ≡ fault.line
   pub text : after ≡ before ++ fault_line fault
 
 -- a front of that line
 pub record CutsFault (bytes : List ℕ) (before after : List ℕ) (done : ℕ) : Type 0 where
   pub fault : Fault
-  pub refused : IsRefused bytes fault
+  pub refused : IsFault bytes fault
   pub cut : CutLine (fault_line fault) before after done
 
--- the sink after bytes were read, by the status
-abbrev pub BytesText : List ℕ → ℕ → List ℕ → List ℕ → Status → Type 0
-BytesText bytes moment before after Done = RunsDocument bytes moment before after Done
-BytesText bytes moment before after Usage = ⊥
-BytesText bytes moment before after (BadDocument line) = TellsFault bytes line before after
-BytesText bytes moment before after ReadFault = ⊥
-BytesText bytes moment before after (WriteFault done) =
-    CutsFault bytes before after done ⊎ RunsDocument bytes moment before after (WriteFault done)
-BytesText bytes moment before after (OutOfMemory done) =
-    ((done ≡ 0) × (after ≡ before)) ⊎ RunsDocument bytes moment before after (OutOfMemory done)
+-- the sink after bytes were read, by the status; `runs` is said of an accepted document
+abbrev pub BytesText : List ℕ → (Document → Status → Type 0) → List ℕ → List ℕ → Status → Type 0
+BytesText bytes runs before after Usage = ⊥
+BytesText bytes runs before after (BadDocument line) = TellsFault bytes line before after
+BytesText bytes runs before after ReadFault = ⊥
+BytesText bytes runs before after (WriteFault done) =
+    CutsFault bytes before after done ⊎ OfDocument bytes (λ document. runs document (WriteFault done))
+BytesText bytes runs before after (OutOfMemory done) =
+    ((done ≡ 0) × (after ≡ before)) ⊎ OfDocument bytes (λ document. runs document (OutOfMemory done))
+BytesText bytes runs before after status = OfDocument bytes (λ document. runs document status)
 
 -- the sink after the words were no command
 abbrev pub UsageText : List ℕ → List ℕ → Status → Type 0
@@ -132,71 +219,112 @@ UsageText before after (BadDocument line) = ⊥
 UsageText before after ReadFault = ⊥
 UsageText before after (WriteFault done) = CutLine usage_line before after done
 UsageText before after (OutOfMemory done) = ⊥
+UsageText before after (Down len) = ⊥
+UsageText before after (BadStore area at) = ⊥
 
 -- the sink after a source was to be read; where it tells its bytes, the document is all that it had left
-abbrev pub SourceText : Bool → List ℕ → ℕ → List ℕ → List ℕ → Status → Type 0
-SourceText told left moment before after Done = IsTrue told → BytesText left moment before after Done
-SourceText told left moment before after Usage = ⊥
-SourceText told left moment before after (BadDocument line) = IsTrue told → BytesText left moment before after (BadDocument line)
-SourceText told left moment before after ReadFault = after ≡ before
-SourceText told left moment before after (WriteFault done) = IsTrue told → BytesText left moment before after (WriteFault done)
-SourceText told left moment before after (OutOfMemory done) = IsTrue told → BytesText left moment before after (OutOfMemory done)
+abbrev pub SourceText : Bool → List ℕ → (Document → Status → Type 0) → List ℕ → List ℕ → Status → Type 0
+SourceText told left runs before after Usage = ⊥
+SourceText told left runs before after ReadFault = after ≡ before
+SourceText told left runs before after status = IsTrue told → BytesText left runs before after status
 
--- the sink after a run, by the start that its words give, if they are a command, and the clock's last answer
-abbrev pub RunText : Option Start → ℕ → Bool → List ℕ → List ℕ → List ℕ → Status → Type 0
-RunText None answer told left before after status = UsageText before after status
-RunText (Some start) answer told left before after status = SourceText told left (moment_of_start start answer) before after status
-
--- these bytes are some document that is served
-pub record IsSomeDocument (bytes : List ℕ) : Type 0 where
-  pub document : Document
-  pub read : IsDocument bytes document
-  pub served : All IsServed document.commands
+-- the sink after a run, by what its words ask for, if they are a command, and the clock's last answer; a load is not served yet
+abbrev pub RunText : Option Request → ℕ → Bool → List ℕ → (ℕ → Document → Status → Type 0) → List ℕ → List ℕ → Status → Type 0
+RunText None answer told left runs before after status = UsageText before after status
+RunText (Some (Run start)) answer told left runs before after status = SourceText told left (runs (moment_of_start start answer)) before after status
+RunText (Some Check) answer told left runs before after status = CheckText told left before after status
+RunText (Some (Load n)) answer told left runs before after status = UsageText before after status
 
 -- these bytes are not run, and the fault has this line
 pub record HasFault (bytes : List ℕ) (line : ℕ) : Type 0 where
   pub fault : Fault
-  pub refused : IsRefused bytes fault
+  pub refused : IsFault bytes fault
   pub line_is : line ≡ fault.line
 
 -- why commands ended so
-abbrev pub ScriptCause : Type 0 → Status → Type 0
-ScriptCause write_rose Done = Unit {0}
-ScriptCause write_rose Usage = ⊥
-ScriptCause write_rose (BadDocument line) = ⊥
-ScriptCause write_rose ReadFault = ⊥
-ScriptCause write_rose (WriteFault done) = write_rose
-ScriptCause write_rose (OutOfMemory done) = Unit {0}
+abbrev pub ScriptCause : Type 0 → Type 0 → (Area → ℕ → Type 0) → Status → Type 0
+ScriptCause write_rose rig_rose bad Done = Unit {0}
+ScriptCause write_rose rig_rose bad Usage = ⊥
+ScriptCause write_rose rig_rose bad (BadDocument line) = ⊥
+ScriptCause write_rose rig_rose bad ReadFault = ⊥
+ScriptCause write_rose rig_rose bad (WriteFault done) = write_rose
+ScriptCause write_rose rig_rose bad (OutOfMemory done) = Unit {0}
+ScriptCause write_rose rig_rose bad (Down len) = rig_rose
+ScriptCause write_rose rig_rose bad (BadStore area at) = bad area at
 
--- why a run of bytes that were read ended so, whatever the sink tells
-abbrev pub BytesCause : List ℕ → Type 0 → Status → Type 0
-BytesCause bytes write_rose Done = IsSomeDocument bytes
-BytesCause bytes write_rose Usage = ⊥
-BytesCause bytes write_rose (BadDocument line) = HasFault bytes line
-BytesCause bytes write_rose ReadFault = ⊥
-BytesCause bytes write_rose (WriteFault done) = write_rose
-BytesCause bytes write_rose (OutOfMemory done) = Unit {0}
+-- why a run of bytes that were read ended so, whatever the sink tells; `bad` is why a store of these rules is
+abbrev pub BytesCause : List ℕ → Type 0 → Type 0 → (RuleSet → Area → ℕ → Type 0) → Status → Type 0
+BytesCause bytes write_rose rig_rose bad Done = OfDocument bytes (λ document. Unit {0})
+BytesCause bytes write_rose rig_rose bad Usage = ⊥
+BytesCause bytes write_rose rig_rose bad (BadDocument line) = HasFault bytes line
+BytesCause bytes write_rose rig_rose bad ReadFault = ⊥
+BytesCause bytes write_rose rig_rose bad (WriteFault done) = write_rose
+BytesCause bytes write_rose rig_rose bad (OutOfMemory done) = Unit {0}
+BytesCause bytes write_rose rig_rose bad (Down len) = OfDocument bytes (λ document. rig_rose)
+BytesCause bytes write_rose rig_rose bad (BadStore area at) = OfDocument bytes (λ document. bad document.rules area at)
 
 abbrev pub UsageCause : Type 0 → Status → Type 0
-UsageCause write_rose Done = ⊥
 UsageCause write_rose Usage = Unit {0}
-UsageCause write_rose (BadDocument line) = ⊥
-UsageCause write_rose ReadFault = ⊥
 UsageCause write_rose (WriteFault done) = (done ≡ 0) × write_rose
-UsageCause write_rose (OutOfMemory done) = ⊥
+UsageCause write_rose status = ⊥
 
-abbrev pub SourceCause : Bool → List ℕ → Type 0 → Type 0 → Status → Type 0
-SourceCause told left read_rose write_rose Done = IsTrue told → IsSomeDocument left
-SourceCause told left read_rose write_rose Usage = ⊥
-SourceCause told left read_rose write_rose (BadDocument line) = IsTrue told → HasFault left line
-SourceCause told left read_rose write_rose ReadFault = read_rose
-SourceCause told left read_rose write_rose (WriteFault done) = write_rose
-SourceCause told left read_rose write_rose (OutOfMemory done) = Unit {0}
+abbrev pub SourceCause : Bool → List ℕ → Type 0 → Type 0 → Type 0 → (RuleSet → Area → ℕ → Type 0) → Status → Type 0
+SourceCause told left read_rose write_rose rig_rose bad Done = IsTrue told → OfDocument left (λ document. Unit {0})
+SourceCause told left read_rose write_rose rig_rose bad Usage = ⊥
+SourceCause told left read_rose write_rose rig_rose bad (BadDocument line) = IsTrue told → HasFault left line
+SourceCause told left read_rose write_rose rig_rose bad ReadFault = read_rose
+SourceCause told left read_rose write_rose rig_rose bad (WriteFault done) = write_rose
+SourceCause told left read_rose write_rose rig_rose bad (OutOfMemory done) = Unit {0}
+SourceCause told left read_rose write_rose rig_rose bad (Down len) = rig_rose × (IsTrue told → OfDocument left (λ document. rig_rose))
+SourceCause told left read_rose write_rose rig_rose bad (BadStore area at) = IsTrue told → OfDocument left (λ document. bad document.rules area at)
 
 -- why a run ended so, whatever the sink tells; of want of memory nothing is said but that the words were a command
-abbrev pub RunCause : Option Start → Bool → List ℕ → Type 0 → Type 0 → Status → Type 0
-RunCause None told left read_rose write_rose status = UsageCause write_rose status
-RunCause (Some start) told left read_rose write_rose status = SourceCause told left read_rose write_rose status
+abbrev pub RunCause : Option Request → Bool → List ℕ → Type 0 → Type 0 → Type 0 → (RuleSet → Area → ℕ → Type 0) → Status → Type 0
+RunCause None told left read_rose write_rose rig_rose bad status = UsageCause write_rose status
+RunCause (Some (Run start)) told left read_rose write_rose rig_rose bad status = SourceCause told left read_rose write_rose rig_rose bad status
+RunCause (Some Check) told left read_rose write_rose rig_rose bad status = CheckCause told left read_rose write_rose status
+RunCause (Some (Load n)) told left read_rose write_rose rig_rose bad status = UsageCause write_rose status
+
+-- where nothing was run no disk call was made, and no order was given
+abbrev pub Untouched : Type 0 → Status → Type 0
+Untouched same Usage = same
+Untouched same (BadDocument line) = same
+Untouched same ReadFault = same
+Untouched same status = Unit {0}
+
+-- a run alone makes disk calls
+abbrev pub UntouchedBy : Option Request → Type 0 → Status → Type 0
+UntouchedBy None same status = same
+UntouchedBy (Some (Run start)) same status = Untouched same status
+UntouchedBy (Some Check) same status = same
+UntouchedBy (Some (Load n)) same status = same
+
+-- the orders that the disk got are those of the first commands
+
+-- so many of all commands were made, or the next one too
+abbrev pub IsMade : Status → ℕ → ℕ → Type 0
+IsMade Done n all = n ≡ all
+IsMade (WriteFault done) n all = (n ≡ done) ⊎ (n ≡ done + 1)
+IsMade (OutOfMemory done) n all = (n ≡ done) ⊎ (n ≡ done + 1)
+IsMade status n all = Unit {0}
+
+pub record OrdersMade (commands : List Command) (order : Order) (count : ℕ) (next : Order) (now : ℕ) (status : Status) : Type 0 where
+  pub n : ℕ
+  pub gives : GivesAll (take n commands) order count next now
+  pub made : IsMade status n (length commands)
+
+-- none, where nothing was run
+abbrev pub OrdersOf : List ℕ → Order → ℕ → Order → ℕ → Status → Type 0
+OrdersOf bytes order count next now Done = OfDocument bytes (λ document. OrdersMade document.commands order count next now Done)
+OrdersOf bytes order count next now status =
+    ((next ≡ order) × (now ≡ count)) ⊎ OfDocument bytes (λ document. OrdersMade document.commands order count next now status)
+
+-- a run alone gives orders
+abbrev pub OrdersBy : Option Request → Bool → List ℕ → Order → ℕ → Order → ℕ → Status → Type 0
+OrdersBy None told left order count next now status = (next ≡ order) × (now ≡ count)
+OrdersBy (Some (Run start)) told left order count next now status = IsTrue told → OrdersOf left order count next now status
+OrdersBy (Some Check) told left order count next now status = (next ≡ order) × (now ≡ count)
+OrdersBy (Some (Load n)) told left order count next now status = (next ≡ order) × (now ≡ count)
 
 -- the clock is asked once, where the words give no moment and a document is accepted, and else not at all
 
@@ -207,11 +335,15 @@ AsksOnce (BadDocument line) before now = now ≡ before
 AsksOnce ReadFault before now = now ≡ before
 AsksOnce (WriteFault done) before now = (now ≡ before) ⊎ (now ≡ next_count before)
 AsksOnce (OutOfMemory done) before now = (now ≡ before) ⊎ (now ≡ next_count before)
+AsksOnce (Down len) before now = now ≡ next_count before
+AsksOnce (BadStore area at) before now = now ≡ next_count before
 
 abbrev pub AsksFor : Start → Status → ℕ → ℕ → Type 0
 AsksFor (At moment) status before now = now ≡ before
 AsksFor Asked status before now = AsksOnce status before now
 
-abbrev pub Asks : Option Start → Status → ℕ → ℕ → Type 0
+abbrev pub Asks : Option Request → Status → ℕ → ℕ → Type 0
 Asks None status before now = now ≡ before
-Asks (Some start) status before now = AsksFor start status before now
+Asks (Some (Run start)) status before now = AsksFor start status before now
+Asks (Some Check) status before now = now ≡ before
+Asks (Some (Load n)) status before now = now ≡ before

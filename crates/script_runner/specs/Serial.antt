@@ -1,5 +1,6 @@
 -- The serial meaning of a script: the lines of each command in a world, and the next world.
-use Rattle.std.specs.Prelude.{ℕ, zero, suc, ◌-◌, Bool, true, false, cond, nat_lt, Option, Some, None, Result, Ok, Err, List, [], ◌∷◌, ◌++◌, length, map, flat_map, slice_get, is_some, IsTrue}
+use Rattle.std.specs.Prelude.{◌≡◌, ◌≢◌, ℕ, zero, suc, ◌<◌, ◌≤◌, true, false, cond, Option, Some, None, Result, Ok, Err, List, [], ◌∷◌, ◌++◌, ◌⊎◌, length, map, flat_map, slice_get, is_some}
+use Rattle.delf_disk.specs.Causes.{Rose}
 use Rattle.delf_model.specs.declared.schema.ObjectType.{ObjectType}
 use Rattle.delf_model.specs.declared.schema.EdgeType.{EdgeType}
 use Rattle.delf_model.specs.declared.schema.Schema.{Schema}
@@ -14,17 +15,23 @@ use Rattle.delf_model.specs.declared.call.Listed.{Listed}
 use Rattle.delf_model.specs.declared.call.Refusal.{Refusal}
 use Rattle.delf_model.specs.declared.call.Refusal.TheVariants as refusal
 use Rattle.delf_model.specs.declared.entry.What.{What}
-use Rattle.delf_model.specs.declared.entry.What.TheVariants as what
 use Rattle.delf_model.specs.declared.script.Command.{Command}
 use Rattle.delf_model.specs.declared.script.Command.TheVariants.{Submit, Work, Tick, Get, Show, Job, Jobs, Report, Fail, Crash, Par}
 use Rattle.delf_model.specs.Graph.{object_at}
 use Rattle.delf_model.specs.State.{State, JobRow, owner, find_job, job_row, unlink_start}
 use Rattle.delf_model.specs.Legal.{reply}
 use Rattle.delf_model.specs.Order.{first_step}
-use Rattle.delf_model.specs.Report.{items_of, job_line, listed_from}
-use Rattle.job_report.specs.declared.work.WorkEnd.TheVariants.{All, Idle}
-use Rattle.job_report.specs.Texts.{created_text, updated_text, linked_text, unlinked_text, deleting_text, restoring_text, work_text, graph_text, object_text, edge_text, found_text, absent_text, job_text, listed_text, no_job_text, jobs_text, report_text, refusal_text}
-use Rattle.script_runner.specs.Worlds.{World, state_of, now_of, given_at, with_entry, later}
+use Rattle.delf_model.specs.Report.{job_line, listed_from}
+use Rattle.job_report.specs.declared.work.WorkEnd.{WorkEnd}
+use Rattle.job_report.specs.declared.work.WorkEnd.TheVariants as work_end
+use Rattle.job_report.specs.Texts.{created_text, updated_text, linked_text, unlinked_text, deleting_text, restoring_text, work_text, graph_text, object_text, edge_text, found_text, absent_text, job_text, listed_text, no_job_text, jobs_text, report_text, refusal_text, down_text, opened_text}
+use Rattle.delf_model.specs.State.{Logged, position_of}
+use Rattle.delf_model.specs.Payloads.{payload_at}
+use Rattle.store_laws.specs.Stores.{digest}
+use Rattle.delf_book.specs.Parts.{Interrupted}
+use Rattle.delf_book.specs.Books.{given_by, restored_items}
+use Rattle.delf_book.specs.Steps.{PutsItem}
+use Rattle.script_runner.specs.Worlds.{World, state_of, now_of, interrupted, entered, with_entry, fallen, mended, later}
 
 -- names of types
 
@@ -48,15 +55,6 @@ edge_name schema edge = name_of_edge_type (slice_get schema.edges edge)
 abbrev pub answer : World → Call → Result What Refusal
 answer w asked = reply (state_of w) (now_of w) 0 asked
 
--- the payload that a call gives
-abbrev pub payload_of : Call → List ℕ
-payload_of (call.Create kind id payload) = payload
-payload_of (call.Update id payload) = payload
-payload_of (call.Link edge from to payload) = payload
-payload_of (call.Unlink edge from to name) = []
-payload_of (call.Delete id name) = []
-payload_of (call.Restore name) = []
-
 -- the name that the line of a refusal prints: that of the type that a wrong end has
 abbrev pub refusal_name : Schema → Refusal → List ℕ
 refusal_name schema (refusal.WrongEnd id kind) = kind_name schema kind
@@ -65,11 +63,6 @@ refusal_name schema other = []
 -- the job that an unlink starts
 abbrev pub started_name : State → ℕ → ℕ → ℕ → ℕ → Option ℕ
 started_name s edge from to name = cond (is_some (unlink_start s edge from to name)) (Some name) None
-
--- how many items the job of an entry has
-abbrev pub restored_items : State → What → ℕ
-restored_items s (what.Restore tag job) = items_of s job
-restored_items s other = 0
 
 -- the line of an accepted call
 abbrev pub accepted_text : Schema → World → Call → What → List ℕ
@@ -87,7 +80,7 @@ answer_text schema w asked (Err refused) = refusal_text refused (length w.histor
 
 -- the world after an answer
 abbrev pub after_answer : World → Call → Result What Refusal → World
-after_answer w asked (Ok made) = with_entry w made (payload_of asked)
+after_answer w asked (Ok made) = with_entry w made (given_by asked)
 after_answer w asked (Err refused) = w
 
 -- work: each step is the first of the serial order
@@ -95,30 +88,31 @@ after_answer w asked (Err refused) = w
 abbrev pub next_step : World → Option What
 next_step w = first_step (state_of w) (now_of w)
 
--- the world after a step, the same where there is none
-abbrev pub after_step : World → Option What → World
-after_step w None = w
-after_step w (Some step) = with_entry w step []
+-- the step would put back this item, whose payload is not the one that was sealed
+pub record PutsDamaged (w : World) (what : What) (item : ℕ) : Type 0 where
+  pub logged : Logged
+  pub puts : PutsItem (state_of w) what item logged
+  pub differs : slice_get w.payloads.seals item ≢ Some (digest (payload_at w.payloads (position_of logged.item)))
 
--- the world after so many steps; where no step is left it stays
-unfoldable pub world_worked : ℕ → World → World
-world_worked zero w = w
-world_worked (suc n) w = world_worked n (after_step w (next_step w))
+-- one step, which puts nothing damaged back
+pub record StepsTo (w next : World) : Type 0 where
+  pub what : What
+  pub is_first : next_step w ≡ Some what
+  pub whole : (item : ℕ) → PutsDamaged w what item → ⊥
+  pub is_next : next ≡ with_entry w what []
 
--- how many of so many steps were made: one entry each
-abbrev pub steps_made : ℕ → World → ℕ
-steps_made n w = length (world_worked n w).history - length w.history
-
-abbrev pub work_line : ℕ → ℕ → List ℕ
-work_line asked made = work_text made (cond (nat_lt made asked) Idle All)
+-- so many steps
+unfoldable pub MakesSteps : ℕ → World → World → Type 0
+MakesSteps zero w next = next ≡ w
+MakesSteps (suc n) w next = (here : World) × (MakesSteps n w here × StepsTo here next)
 
 -- rows
 
 abbrev pub object_line : Schema → World → ObjectRow → List ℕ
-object_line schema w row = object_text row (kind_name schema row.kind) (given_at w row.at) (owner (state_of w) row.id)
+object_line schema w row = object_text row (kind_name schema row.kind) (payload_at w.payloads row.at) (owner (state_of w) row.id)
 
 abbrev pub edge_line : Schema → World → EdgeRow → List ℕ
-edge_line schema w row = edge_text row (edge_name schema row.key.edge) (given_at w row.birth)
+edge_line schema w row = edge_text row (edge_name schema row.key.edge) (payload_at w.payloads row.birth)
 
 -- the graph: its numbers, the objects by id, the edges by key
 abbrev pub graph_lines : Schema → World → List ℕ
@@ -130,7 +124,7 @@ graph_lines schema w =
 abbrev pub row_found : Schema → World → ℕ → Option ObjectRow → List ℕ
 row_found schema w id None = absent_text (length w.history) id
 row_found schema w id (Some row) =
-    found_text (length w.history) row (kind_name schema row.kind) (given_at w row.at) (owner (state_of w) row.id)
+    found_text (length w.history) row (kind_name schema row.kind) (payload_at w.payloads row.at) (owner (state_of w) row.id)
 
 -- jobs
 
@@ -163,59 +157,87 @@ jobs_lines s = jobs_text (length s.jobs) ++ flat_map (job_text_of s) s.jobs
 abbrev pub report_line : State → List ℕ
 report_line s = report_text (length s.graph.objects) (length s.graph.edges) s.len (map (job_line s) s.jobs)
 
--- commands
+-- commands, by the count of the disk's faults before and after: where it does not rise none was met
 
--- the lines of a command in a world
-unfoldable pub lines_of : Schema → World → Command → List ℕ
-lines_of schema w (Submit asked) = answer_text schema w asked (answer w asked)
-lines_of schema w (Work n) = work_line n (steps_made n w)
-lines_of schema w (Tick n) = []
-lines_of schema w (Get id) = row_found schema w id (object_at (state_of w).graph id)
-lines_of schema w Show = graph_lines schema w
-lines_of schema w (Job name) = job_lines schema (state_of w) name
-lines_of schema w Jobs = jobs_lines (state_of w)
-lines_of schema w Report = report_line (state_of w)
-lines_of schema w (Fail n) = []
-lines_of schema w (Crash pick) = []
-lines_of schema w (Par quiet workers turns lanes) = []
+-- what is printed while the world is down
+abbrev pub refused_down : World → List ℕ
+refused_down w = refusal_text (refusal.Down (length w.history)) (length w.history) []
 
--- the world after it
-unfoldable pub next_world : World → Command → World
-next_world w (Submit asked) = after_answer w asked (answer w asked)
-next_world w (Work n) = world_worked n w
-next_world w (Tick n) = later w n
-next_world w (Get id) = w
-next_world w Show = w
-next_world w (Job name) = w
-next_world w Jobs = w
-next_world w Report = w
-next_world w (Fail n) = w
-next_world w (Crash pick) = w
-next_world w (Par quiet workers turns lanes) = w
+-- a writing call
+pub data Submits (schema : Schema) (w : World) (asked : Call) (before now : ℕ) (text : List ℕ) (next : World) : Type 0 where
+  Answers : w.down ≡ false → now ≡ before → text ≡ answer_text schema w asked (answer w asked) → next ≡ after_answer w asked (answer w asked) →
+      Submits schema w asked before now text next
+  Falls : (what : What) → w.down ≡ false → Rose before now → answer w asked ≡ Ok what → text ≡ down_text (length w.history) →
+      next ≡ fallen w (Some (interrupted w what (given_by asked))) → Submits schema w asked before now text next
+  WasDown : w.down ≡ true → now ≡ before → text ≡ refused_down w → next ≡ w → Submits schema w asked before now text next
 
--- the world after commands, and all their lines
+-- so many steps of at most n, and why no more were made
+pub data StepsEnd (n : ℕ) (w : World) (before now made : ℕ) (end : WorkEnd) (next : World) : Type 0 where
+  MakesAll : made ≡ n → now ≡ before → MakesSteps made w next → end ≡ work_end.All → StepsEnd n w before now made end next
+  Idles : made < n → now ≡ before → MakesSteps made w next → next_step next ≡ None → end ≡ work_end.Idle → StepsEnd n w before now made end next
+  MeetsDamage : (item : ℕ) (what : What) → made < n → now ≡ before → MakesSteps made w next → next_step next ≡ Some what → PutsDamaged next what item →
+      end ≡ work_end.Damaged item → StepsEnd n w before now made end next
+  Falls : (here : World) (what : What) → made < n → Rose before now → MakesSteps made w here → next_step here ≡ Some what →
+      end ≡ work_end.Down (length here.history) → next ≡ fallen here (Some (interrupted here what [])) → StepsEnd n w before now made end next
 
-unfoldable pub world_after : World → List Command → World
-world_after w [] = w
-world_after w (command ∷ more) = world_after (next_world w command) more
+-- at most so many steps
+pub data Works (n : ℕ) (w : World) (before now : ℕ) (text : List ℕ) (next : World) : Type 0 where
+  Makes : (made : ℕ) (end : WorkEnd) → w.down ≡ false → StepsEnd n w before now made end next → text ≡ work_text made end → Works n w before now text next
+  WasDown : w.down ≡ true → now ≡ before → text ≡ refused_down w → next ≡ w → Works n w before now text next
 
-unfoldable pub text_of : Schema → World → List Command → List ℕ
-text_of schema w [] = []
-text_of schema w (command ∷ more) = lines_of schema w command ++ text_of schema (next_world w command) more
+-- what is to be said where the disk can be read
+pub data Reads (w : World) (said : List ℕ) (before now : ℕ) (text : List ℕ) (next : World) : Type 0 where
+  Tells : w.down ≡ false → now ≡ before → text ≡ said → next ≡ w → Reads w said before now text next
+  Falls : w.down ≡ false → Rose before now → text ≡ down_text (length w.history) → next ≡ fallen w None → Reads w said before now text next
+  WasDown : w.down ≡ true → now ≡ before → text ≡ refused_down w → next ≡ w → Reads w said before now text next
 
--- what this build serves: all but orders to a disk and blocks of threads
-abbrev pub is_served : Command → Bool
-is_served (Submit asked) = true
-is_served (Work n) = true
-is_served (Tick n) = true
-is_served (Get id) = true
-is_served Show = true
-is_served (Job name) = true
-is_served Jobs = true
-is_served Report = true
-is_served (Fail n) = false
-is_served (Crash pick) = false
-is_served (Par quiet workers turns lanes) = false
+-- what makes no disk call
+pub record Goes (said : List ℕ) (to : World) (before now : ℕ) (text : List ℕ) (next : World) : Type 0 where
+  pub count : now ≡ before
+  pub text_is : text ≡ said
+  pub next_is : next ≡ to
 
-abbrev pub IsServed : Command → Type 0
-IsServed command = IsTrue (is_served command)
+-- a cut of the power and an opening that was not refused: the history is the kept one, or of a world that was down that with
+-- the entry beside it
+pub data Crashes (w : World) (before now : ℕ) (text : List ℕ) (next : World) : Type 0 where
+  Keeps : now ≡ before → text ≡ opened_text (length next.history) → next ≡ mended w → Crashes w before now text next
+  Enters : (it : Interrupted) → w.down ≡ true → w.beside ≡ Some it → now ≡ before → text ≡ opened_text (length next.history) → next ≡ entered w it →
+      Crashes w before now text next
+
+-- the lines of a command in a world, and the next world
+abbrev pub Serves : Schema → World → Command → ℕ → ℕ → List ℕ → World → Type 0
+Serves schema w (Submit asked) before now text next = Submits schema w asked before now text next
+Serves schema w (Work n) before now text next = Works n w before now text next
+Serves schema w (Tick n) before now text next = Goes [] (later w n) before now text next
+Serves schema w (Get id) before now text next = Reads w (row_found schema w id (object_at (state_of w).graph id)) before now text next
+Serves schema w Show before now text next = Reads w (graph_lines schema w) before now text next
+Serves schema w (Job name) before now text next = Goes (job_lines schema (state_of w) name) w before now text next
+Serves schema w Jobs before now text next = Goes (jobs_lines (state_of w)) w before now text next
+Serves schema w Report before now text next = Reads w (report_line (state_of w)) before now text next
+Serves schema w (Fail n) before now text next = Goes [] w before now text next
+Serves schema w (Crash pick) before now text next = Crashes w before now text next
+Serves schema w (Par quiet workers turns lanes) before now text next = ⊥
+
+-- all lines of commands, and the last world
+unfoldable pub Script : Schema → World → List Command → ℕ → ℕ → List ℕ → World → Type 0
+Script schema w [] before now text next = (now ≡ before) × (text ≡ []) × (next ≡ w)
+Script schema w (command ∷ more) before now text next =
+    (between : ℕ) × ((here : World) × ((line : List ℕ) × ((rest : List ℕ) ×
+    (Serves schema w command before between line here × Script schema here more between now rest next × (text ≡ line ++ rest)))))
+
+-- where want of memory may leave a command: the world as it was, with some of the entries of the command, or with one beside it
+
+abbrev pub HaltsCall : World → Call → World → Type 0
+HaltsCall w asked next =
+    (what : What) × ((answer w asked ≡ Ok what)
+    × ((next ≡ with_entry w what (given_by asked)) ⊎ (next ≡ fallen w (Some (interrupted w what (given_by asked))))))
+
+abbrev pub HaltsWork : ℕ → World → World → Type 0
+HaltsWork n w next =
+    (made : ℕ) × ((here : World) × ((made ≤ n) × MakesSteps made w here
+    × ((next ≡ here) ⊎ ((what : What) × ((next_step here ≡ Some what) × (next ≡ fallen here (Some (interrupted here what []))))))))
+
+abbrev pub Halts : Command → World → World → Type 0
+Halts (Submit asked) w next = (next ≡ w) ⊎ HaltsCall w asked next
+Halts (Work n) w next = HaltsWork n w next
+Halts other w next = next ≡ w

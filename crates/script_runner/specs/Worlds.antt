@@ -1,21 +1,27 @@
 -- A world: what a script runs against, between two commands.
-use Rattle.std.specs.Prelude.{◌≡◌, ◌≤◌, ℕ, ◌+◌, min, List, [], ◌∷◌, ◌++◌, length, slice_index_or}
+use Rattle.std.specs.Prelude.{◌≡◌, ◌≤◌, ℕ, ◌+◌, min, Bool, true, false, List, [], ◌∷◌, ◌++◌, Option, Some, None}
+use Rattle.delf_disk.specs.Areas.{Areas}
 use Rattle.delf_model.specs.declared.entry.Entry.{Entry}
 use Rattle.delf_model.specs.declared.entry.What.{What}
 use Rattle.delf_model.specs.RuleSet.{RuleSet}
 use Rattle.delf_model.specs.State.{State, after}
-use Rattle.delf_model.specs.Legal.{Legal, moment_of, greatest_moment}
+use Rattle.delf_model.specs.Legal.{moment_of, greatest_moment}
+use Rattle.delf_model.specs.Payloads.{Payloads, payloads_after}
+use Rattle.store_laws.specs.Stores.{digest, StandBut}
+use Rattle.store_laws.specs.Moves.{RestIn, StandsFor}
+use Rattle.entry_codec.specs.EntryHead.{AreEntries}
+use Rattle.delf_book.specs.Parts.{Interrupted}
+use Rattle.delf_book.specs.Books.{Booked}
 
--- a history, the payload that each of its entries gave, and the moment at which calls are made
+-- a history and its payloads, the moment at which calls are made, whether a disk fault was met since the opening, and the
+-- entry that may then stand beside the history
 pub record World : Type 0 where
   pub rules : RuleSet
   pub history : List Entry
-  pub given : List (List ℕ)
+  pub payloads : Payloads
   pub clock : ℕ
-
--- the world of the empty history; no moment is above the greatest
-abbrev pub first_world : RuleSet → ℕ → World
-first_world rules clock = record { rules = rules; history = []; given = []; clock = min clock greatest_moment }
+  pub down : Bool
+  pub beside : Option Interrupted
 
 -- the state after its history
 abbrev pub state_of : World → State
@@ -25,25 +31,74 @@ state_of w = after w.rules w.history
 abbrev pub now_of : World → ℕ
 now_of w = moment_of (state_of w) w.clock
 
--- the payload that the entry at a position gave
-abbrev pub given_at : World → ℕ → List ℕ
-given_at w position = slice_index_or w.given position []
+-- the entry of this kind that is made now
+abbrev pub entry_now : World → What → Entry
+entry_now w what = record { moment = now_of w; what = what }
 
--- the world with one entry more, which gives this payload
-abbrev pub with_entry : World → What → List ℕ → World
-with_entry w what given = record {
+-- the same with the payload that it is given, of a call or step that met a disk fault
+abbrev pub interrupted : World → What → List ℕ → Interrupted
+interrupted w what given = record { entry = entry_now w what; payload = given }
+
+-- the world with this entry more, and up
+abbrev pub entered : World → Interrupted → World
+entered w it = record {
   rules = w.rules;
-  history = w.history ++ record { moment = now_of w; what = what } ∷ [];
-  given = w.given ++ given ∷ [];
+  history = w.history ++ it.entry ∷ [];
+  payloads = payloads_after digest (state_of w) it.entry it.payload w.payloads;
   clock = w.clock;
+  down = false;
+  beside = None;
 }
+
+-- the world with one entry more, made now, which gives this payload
+abbrev pub with_entry : World → What → List ℕ → World
+with_entry w what given = entered w (interrupted w what given)
+
+-- down, with this beside the history
+abbrev pub fallen : World → Option Interrupted → World
+fallen w beside = record w { down = true; beside = beside }
+
+-- up again, with the history that it kept
+abbrev pub mended : World → World
+mended w = record w { down = false; beside = None }
 
 -- the world so many seconds later
 abbrev pub later : World → ℕ → World
 later w seconds = record w { clock = min (w.clock + seconds) greatest_moment }
 
--- the history is legal, each of its entries gave one payload, and the clock is within its limit
-pub record KeepsWorld (rules : RuleSet) (history : List Entry) (given : List (List ℕ)) (clock : ℕ) : Type 0 where
-  pub legal : Legal rules history
-  pub given_each : length given ≡ length history
-  pub within : clock ≤ greatest_moment
+-- what the bytes of a disk hold of a world
+
+-- these areas stand for a history and its payloads, or for it with what is beside it
+abbrev pub StandsBeside : RuleSet → List Entry → Payloads → Option Interrupted → Areas → Type 0
+StandsBeside rules history e None c = StandBut rules history e c
+StandsBeside rules history e (Some it) c = StandsFor rules history e it.entry it.payload c
+
+-- so does every image of a disk
+abbrev pub IsHeld : World → (Areas → Type 0) → Type 0
+IsHeld w images = (c : Areas) → images c → StandsBeside w.rules w.history w.payloads w.beside c
+
+-- a world is what a disk with these images holds; while it is up, with one vault record an item and nothing beside
+pub record StandsOn (w : World) (images : Areas → Type 0) : Type 0 where
+  pub alone : w.down ≡ false → w.beside ≡ None
+  pub rests : w.down ≡ false → RestIn w.rules w.history w.payloads images
+  pub held : w.down ≡ true → IsHeld w images
+
+-- the world of a book with these payloads, at this moment of the clock
+abbrev pub world_of : {G R : Type 0} → Booked G R → ℕ → Payloads → World
+world_of book clock e = record {
+  rules = book.rules;
+  history = book.history;
+  payloads = e;
+  clock = clock;
+  down = book.down;
+  beside = book.beside;
+}
+
+-- the world that an opening finds where these areas read
+pub record Opens (rules : RuleSet) (moment : ℕ) (seen : Areas) (w : World) : Type 0 where
+  pub rules_are : w.rules ≡ rules
+  pub clock : w.clock ≡ min moment greatest_moment
+  pub up : w.down ≡ false
+  pub alone : w.beside ≡ None
+  pub entries : AreEntries w.history
+  pub stands : StandBut rules w.history w.payloads seen

@@ -1,54 +1,60 @@
-ghost use Rattle.std.specs.Prelude.{◌≡◌, cond, IfOk, OnOk, Ok, Some, None, length};
-ghost use Rattle.delf_model.specs.declared.ids.JobName.TheVariants.{Named};
-ghost use Rattle.delf_model.specs.declared.call.Call.{Call};
-ghost use Rattle.delf_model.specs.State.{find_job, is_job};
-ghost use Rattle.delf_model.specs.Legal.{Legal};
+ghost use Rattle.std.specs.Prelude.{◌≡◌, cond, IfOk, OnErr, Some, None, length, is_some};
+ghost use Rattle.delf_disk.specs.Plain.{Plain, SameKind};
+ghost use Rattle.delf_model.specs.declared.script.Command.TheVariants.{Submit};
+ghost use Rattle.delf_model.specs.Payloads.{Payloads};
 ghost use Rattle.job_report.specs.Texts.{refusal_text};
-ghost use Rattle.script_runner.specs.Worlds.{World, state_of, with_entry};
-ghost use Rattle.script_runner.specs.Names.{HasNames, IsNumberedCall, IsNumberedRefusal};
-ghost use Rattle.script_runner.specs.Serial.{answer, after_answer, answer_text, accepted_text, payload_of, refusal_name, restored_items};
+ghost use Rattle.script_runner.specs.Lines.{receipt_text};
+ghost use Rattle.script_runner.specs.Names.{HasNames, IsNamed, IsNumberedCall, IsNumberedRefusal};
+ghost use Rattle.script_runner.specs.Serial.{refusal_name};
+ghost use Rattle.script_runner.specs.Standing.{Falls, Carries, Halted};
 
 use crate::names::{edge_name, kind_name, unprinted_name};
-use crate::store::Store;
-use delf_model::{Bytes, Call, Job, JobName, Refusal, Schema, What};
+use delf_book::{Book, Receipt};
+use delf_disk::Rig;
+use delf_model::{Bytes, Call, Moment, Refusal, Schema};
 use job_report::{
     created_line, deleting_line, linked_line, refusal_line, restoring_line, unlinked_line,
     updated_line,
 };
+use live_graph::ListGraph;
 use std::alloc::{AllocError, Global};
 
-/// Makes a call, and gives the line of its answer.
-pub fn submit(
+/// Makes a call at this moment of the clock, and gives the line of its answer.
+pub(crate) fn submit<R: Rig>(
     alloc: Global,
     schema: &Schema,
-    store: &mut Store,
+    book: &mut Book<ListGraph, R>,
+    clock: Moment,
     call: &Call,
 ) -> Result<Bytes, AllocError>
-    requires named { HasNames schema.now store.old.rules }
-    requires numbered { IsNumberedCall store.old.rules call.now }
-    ensures line { IfOk result (λ text. text ≡ answer_text schema.now store.old call.now (answer store.old call.now)) }
-    ensures next { OnOk result (store.new ≡ after_answer store.old call.now (answer store.old call.now)) }
+    requires named { HasNames schema.now book.old.rules }
+    requires numbered { IsNumberedCall book.old.rules call.now }
+    ensures rules { book.new.rules ≡ book.old.rules }
+    ensures serves { IfOk result (λ text. Plain (R.Disk.told book.old.rig) (R.Disk.honest book.old.rig) → (e : Payloads)
+        → Carries R.Disk.may_leave R.Disk.faults schema.now (Submit call.now) book.old book.new clock clock e text) }
+    ensures halts { OnErr result (Plain (R.Disk.told book.old.rig) (R.Disk.honest book.old.rig) → (e : Payloads)
+        → Halted R.Disk.may_leave (Submit call.now) book.old clock e book.new.rig) }
+    ensures kind { SameKind R.Disk.told R.Disk.honest R.Disk.order R.Disk.orders book.old.rig book.new.rig }
+    ensures cause { Falls R.Disk.faults book.old book.new }
 {
-    let position = store.len();
-    match store.submit(alloc, call)? {
-        Ok(what) => accepted_line(alloc, schema, store, position, call, &what),
-        Err(refusal) => refused_line(alloc, schema, &refusal, position),
+    let len = book.len();
+    match book.call(clock, 0, call) {
+        Ok(receipt) => accepted_line(alloc, schema, call, &receipt),
+        Err(refusal) => refused_line(alloc, schema, &refusal, len),
     }
 }
 
-// The line of an accepted call, after its entry was made at this position.
+// The line of an accepted call.
 fn accepted_line(
     alloc: Global,
     schema: &Schema,
-    store: &Store,
-    position: u32,
     call: &Call,
-    what: &What,
+    receipt: &Receipt,
 ) -> Result<Bytes, AllocError>
-    requires named { HasNames schema.now store.now.rules }
-    requires numbered { IsNumberedCall store.now.rules call.now }
-    ensures { IfOk result (λ text. (w : World) → Legal w.rules w.history → store.now ≡ with_entry w what.now (payload_of call.now) → position ≡ length w.history → answer w call.now ≡ Ok what.now → text ≡ accepted_text schema.now w call.now what.now) }
+    requires { IsNamed schema.now call.now }
+    ensures { IfOk result (λ text. text ≡ receipt_text schema.now call.now receipt.now) }
 {
+    let position = receipt.position;
     match call {
         Call::Create { id, .. } => created_line(alloc, position, *id),
         Call::Update { id, .. } => updated_line(alloc, position, *id),
@@ -60,45 +66,30 @@ fn accepted_line(
             from,
             to,
             name,
-        } => {
-            let started = started_by(store, position, *name);
-            unlinked_line(
-                alloc,
-                position,
-                edge_name(schema, *edge),
-                *from,
-                *to,
-                started,
-            )
-        }
+        } => unlinked_line(
+            alloc,
+            position,
+            edge_name(schema, *edge),
+            *from,
+            *to,
+            started_name(receipt, *name),
+        ),
         Call::Delete { id, name } => deleting_line(alloc, position, *id, *name),
-        Call::Restore { name } => {
-            restoring_line(alloc, position, *name, restored_items(store, what))
-        }
+        Call::Restore { name } => restoring_line(alloc, position, *name, receipt.items),
     }
 }
 
-// The name, where it means the job that was started at this position.
-fn started_by(store: &Store, position: u32, name: u32) -> Option<u32>
-    ensures { result ≡ cond (is_job position (find_job (state_of store.now).jobs (Named name))) (Some name) None }
+// The name, where the call started a job.
+fn started_name(receipt: &Receipt, name: u32) -> Option<u32>
+    ensures { result ≡ cond (is_some receipt.now.started) (Some name) None }
 {
-    match store.find(JobName::Named(name)) {
-        Some(Job(start)) if start == position => Some(name),
-        _ => None,
+    match receipt.started {
+        Some(_) => Some(name),
+        None => None,
     }
 }
 
-// The number of items of the job that the entry restores.
-fn restored_items(store: &Store, what: &What) -> u32
-    ensures { result ≡ restored_items (state_of store.now) what.now }
-{
-    match what {
-        What::Restore { job, .. } => store.items(*job),
-        _ => 0,
-    }
-}
-
-// The line of a refusal at this length of the history.
+// The line of a refusal at this length of the history; want of memory has none.
 fn refused_line(
     alloc: Global,
     schema: &Schema,
@@ -106,9 +97,11 @@ fn refused_line(
     len: u32,
 ) -> Result<Bytes, AllocError>
     requires { IsNumberedRefusal (length schema.now.objects) refusal.now }
-    ensures { IfOk result (λ text. text ≡ refusal_text refusal.now len (refusal_name schema.now refusal.now)) }
+    ensures text { IfOk result (λ text. text ≡ refusal_text refusal.now len (refusal_name schema.now refusal.now)) }
+    ensures other { IfOk result (λ text. refusal.now ≡ Refusal.OutOfMemory → ⊥) }
 {
     match refusal {
+        Refusal::OutOfMemory => Err(AllocError),
         Refusal::WrongEnd { kind, .. } => {
             refusal_line(alloc, refusal, len, kind_name(schema, *kind))
         }

@@ -1,8 +1,9 @@
 ghost use Rattle.std.specs.Prelude.{◌≡◌, ◌++◌, ◌<◌, IfOk, IfErr, length};
 ghost use Rattle.std.specs.List.{All};
+ghost use Rattle.delf_model.specs.Checked.{IsSpellable, numbered};
 ghost use Rattle.script_lang.specs.Documents.{IsLineTold};
 ghost use Rattle.script_runner.specs.Documents.{IsDocument, IsToldFault, IsThere, broken_line, broken_text, end_name};
-ghost use Rattle.script_runner.specs.Names.{HasNames, IsNumberedCommand};
+ghost use Rattle.script_runner.specs.Names.{HasNames, HasNoLanes, IsNumberedCommand};
 
 use crate::names::{edge_row_name, object_row_name};
 use crate::shows::joined;
@@ -24,6 +25,9 @@ pub fn read_document(alloc: Global, bytes: &[u8]) -> Result<Document, DocumentFa
     ensures document { IfOk result (IsDocument bytes.now) }
     ensures named { IfOk result (λ document. HasNames document.schema document.rules) }
     ensures numbered { IfOk result (λ document. All (IsNumberedCommand document.rules) document.commands) }
+    ensures spellable { IfOk result (λ document. IsSpellable document.schema) }
+    ensures rules { IfOk result (λ document. document.rules ≡ numbered document.schema) }
+    ensures lanes { IfOk result (λ document. All HasNoLanes document.commands) }
     ensures fault { IfErr result (IsToldFault bytes.now) }
 {
     if bytes.len() > DOCUMENT_LIMIT {

@@ -2,86 +2,89 @@ ghost use Rattle.std.specs.Prelude.{◌≡◌, ◌++◌, IfOk, flat_map};
 ghost use Rattle.delf_model.specs.State.{find_job};
 ghost use Rattle.delf_model.specs.Report.{listed_from, line_of_row};
 ghost use Rattle.job_report.specs.Texts.{job_text};
-ghost use Rattle.script_runner.specs.Worlds.{state_of};
+ghost use Rattle.delf_book.specs.Books.{state_in};
 ghost use Rattle.script_runner.specs.Names.{HasNames, IsNumberedListed};
 ghost use Rattle.script_runner.specs.Serial.{job_lines, jobs_lines, report_line, row_named, listed_line as listed_line_of};
 
 use crate::names::{edge_name, unprinted_name};
+use crate::readings::{edges, job_lines, line_of, listed, objects};
 use crate::shows::joined;
-use crate::store::Store;
+use delf_book::Book;
+use delf_disk::Rig;
 use delf_model::{Bytes, Item, Job, JobLine, JobName, Listed, Schema};
 use job_report::{job_line, jobs_line, listed_line, no_job_line, report_json};
+use live_graph::ListGraph;
 use std::alloc::{AllocError, Global};
 
 /// The line of the job that the name means, and of each item that it listed.
-pub fn job(
+pub(crate) fn job<R: Rig>(
     alloc: Global,
     schema: &Schema,
-    store: &Store,
+    book: &Book<ListGraph, R>,
     name: &JobName,
 ) -> Result<Bytes, AllocError>
-    requires { HasNames schema.now store.now.rules }
-    ensures { IfOk result (λ text. text ≡ job_lines schema.now (state_of store.now) name.now) }
+    requires { HasNames schema.now book.now.rules }
+    ensures { IfOk result (λ text. text ≡ job_lines schema.now (state_in book.now) name.now) }
 {
-    match named_line(store, *name) {
-        Some(line) => told_lines(alloc, schema, store, &line),
+    match named_line(book, *name) {
+        Some(line) => told_lines(alloc, schema, book, &line),
         None => no_job_line(alloc, *name),
     }
 }
 
 // The line of a job, and of each item that it listed.
-fn told_lines(
+fn told_lines<R: Rig>(
     alloc: Global,
     schema: &Schema,
-    store: &Store,
+    book: &Book<ListGraph, R>,
     line: &JobLine,
 ) -> Result<Bytes, AllocError>
-    requires { HasNames schema.now store.now.rules }
-    ensures { IfOk result (λ text. text ≡ job_text line.now ++ flat_map (listed_line_of schema.now) (listed_from line.now.job 0 (state_of store.now).items)) }
+    requires { HasNames schema.now book.now.rules }
+    ensures { IfOk result (λ text. text ≡ job_text line.now ++ flat_map (listed_line_of schema.now) (listed_from line.now.job 0 (state_in book.now).items)) }
 {
     let first = job_line(alloc, line)?;
-    let listed = listed_lines(alloc, schema, store, line.job)?;
+    let listed = listed_lines(alloc, schema, book, line.job)?;
     joined(alloc, first.as_slice(), listed.as_slice())
 }
 
 // The line of the job that the name means.
-fn named_line(store: &Store, name: JobName) -> Option<JobLine>
-    ensures { result ≡ line_of_row (state_of store.now) (row_named (state_of store.now) (find_job (state_of store.now).jobs name)) }
+fn named_line<R: Rig>(book: &Book<ListGraph, R>, name: JobName) -> Option<JobLine>
+    ensures { result ≡ line_of_row (state_in book.now) (row_named (state_in book.now) (find_job (state_in book.now).jobs name)) }
 {
-    match store.find(name) {
-        Some(job) => store.line_of(job),
+    match book.find(name) {
+        Some(job) => line_of(book, job),
         None => None,
     }
 }
 
-fn listed_lines(
+fn listed_lines<R: Rig>(
     alloc: Global,
     schema: &Schema,
-    store: &Store,
+    book: &Book<ListGraph, R>,
     job: Job,
 ) -> Result<Bytes, AllocError>
-    requires { HasNames schema.now store.now.rules }
-    ensures { IfOk result (λ text. text ≡ flat_map (listed_line_of schema.now) (listed_from job 0 (state_of store.now).items)) }
+    requires { HasNames schema.now book.now.rules }
+    ensures { IfOk result (λ text. text ≡ flat_map (listed_line_of schema.now) (listed_from job 0 (state_in book.now).items)) }
 {
     let mut text = Vec::new(alloc);
-    for place in 0..store.len() {
-        let Some(listed) = store.listed_at(job, place) else {
+    for place in 0..book.len() {
+        let Some(row) = listed(book, job, place) else {
             return Ok(Bytes::from_vec(text));
         };
-        let line = listed_row_line(alloc, schema, store, &listed)?;
+        let line = listed_row_line(alloc, schema, book, &row)?;
         text.extend_from_slice(line.as_slice())?;
     }
     Ok(Bytes::from_vec(text))
 }
 
-fn listed_row_line(
+fn listed_row_line<R: Rig>(
     alloc: Global,
     schema: &Schema,
-    store: &Store,
+    book: &Book<ListGraph, R>,
     listed: &Listed,
 ) -> Result<Bytes, AllocError>
-    requires named { HasNames schema.now store.now.rules }
-    requires numbered { IsNumberedListed store.now.rules listed.now }
+    requires named { HasNames schema.now book.now.rules }
+    requires numbered { IsNumberedListed book.now.rules listed.now }
     ensures { IfOk result (λ text. text ≡ listed_line_of schema.now listed.now) }
 {
     match listed.row {
@@ -91,10 +94,10 @@ fn listed_row_line(
 }
 
 /// How many jobs there are, and the line of each.
-pub fn jobs(alloc: Global, store: &Store) -> Result<Bytes, AllocError>
-    ensures { IfOk result (λ text. text ≡ jobs_lines (state_of store.now)) }
+pub(crate) fn jobs<R: Rig>(alloc: Global, book: &Book<ListGraph, R>) -> Result<Bytes, AllocError>
+    ensures { IfOk result (λ text. text ≡ jobs_lines (state_in book.now)) }
 {
-    let lines = store.jobs(alloc)?;
+    let lines = job_lines(alloc, book)?;
     let count = jobs_line(alloc, lines.len() as u32)?;
     let rows = each_job_line(alloc, lines.as_slice())?;
     joined(alloc, count.as_slice(), rows.as_slice())
@@ -112,17 +115,20 @@ fn each_job_line(alloc: Global, lines: &[JobLine]) -> Result<Bytes, AllocError>
 }
 
 /// The line of JSON: counts and jobs.
-pub fn report(alloc: Global, store: &Store) -> Result<Bytes, AllocError>
-    ensures { IfOk result (λ text. text ≡ report_line (state_of store.now)) }
+pub(crate) fn report_text<R: Rig>(
+    alloc: Global,
+    book: &Book<ListGraph, R>,
+) -> Result<Bytes, AllocError>
+    ensures { IfOk result (λ text. text ≡ report_line (state_in book.now)) }
 {
-    let objects = store.objects(alloc)?;
-    let edges = store.edges(alloc)?;
-    let jobs = store.jobs(alloc)?;
+    let objects = objects(alloc, book)?;
+    let edges = edges(alloc, book)?;
+    let jobs = job_lines(alloc, book)?;
     report_json(
         alloc,
         objects.len() as u32,
         edges.len() as u32,
-        store.len(),
+        book.len(),
         jobs.as_slice(),
     )
 }

@@ -1,12 +1,20 @@
-//! The top call: a document is read, its script is run against a graph, and the lines are put.
+//! The top call: a document is read, the store is opened, the script is run against it, and the lines are put.
 #![tactic(auto)]
 
 mod answers;
+mod check;
+#[cfg(test)]
+mod check_tests;
 mod document;
+mod faults;
 mod jobs;
+mod load;
 mod names;
 mod put;
 mod read;
+mod readings;
+#[cfg(test)]
+mod rows;
 mod run;
 mod script;
 mod shows;
@@ -17,8 +25,8 @@ mod tests;
 mod words;
 
 pub use document::{Document, read_document};
+pub use load::{load_commands, load_document, restored_count};
 pub use put::put_all;
 pub use read::{ReadError, read_at_most};
 pub use run::run_plain;
 pub use status::Status;
-pub use store::Store;

@@ -1,58 +1,84 @@
-ghost use Rattle.std.specs.Prelude.{◌≡◌, ◌++◌, ◌<◌, ◌≤◌, ◌^◌, ℕ, List, IsTrue, IfOk, IfErr, codes, map, length, string_bytes};
+ghost use Rattle.std.specs.Prelude.{◌≡◌, ◌++◌, ◌⊎◌, ◌<◌, ◌≤◌, ◌^◌, ℕ, List, true, false, IsTrue, IfOk, IfErr, map, length, string_bytes};
 ghost use Rattle.std.specs.List.{All};
+ghost use Rattle.delf_disk.specs.Areas.{Areas};
+ghost use Rattle.delf_disk.specs.Causes.{Rose as DiskRose};
+ghost use Rattle.delf_disk.specs.Plain.{Plain, SameKind, SameTelling};
 ghost use Rattle.delf_io.specs.Faults.{Rose};
-ghost use Rattle.script_lang.specs.Documents.{IsLineTold};
+ghost use Rattle.delf_model.specs.Checked.{IsSpellable, numbered};
+ghost use Rattle.delf_model.specs.Legal.{Legal};
+ghost use Rattle.delf_model.specs.Sound.{Sound};
+ghost use Rattle.job_report.specs.Texts.{opened_text};
+ghost use Rattle.delf_model.specs.Payloads.{Payloads};
 ghost use Rattle.script_runner.specs.Documents.{IsDocument};
-ghost use Rattle.script_runner.specs.Requests.{start_of, moment_of_start};
-ghost use Rattle.script_runner.specs.Worlds.{first_world};
-ghost use Rattle.script_runner.specs.Names.{HasNames, IsNumberedCommand};
-ghost use Rattle.script_runner.specs.Serial.{IsServed};
-ghost use Rattle.script_runner.specs.Outcomes.{RunText, RunCause, UsageText, UsageCause, SourceText, SourceCause, BytesText, BytesCause, ScriptText, ScriptCause, IsRefusal, FaultText, FaultCause, Asks, AsksFor};
+ghost use Rattle.script_runner.specs.Endings.{UnopenedText, UnopenedCause, DownText, DownCause, EndText, EndCause};
+ghost use Rattle.script_runner.specs.Openings.{MayGive, StopCounts, Stops};
+ghost use Rattle.script_runner.specs.Orders.{Gives};
+ghost use Rattle.script_runner.specs.Requests.{request_of, moment_of_start};
+ghost use Rattle.script_runner.specs.Names.{HasNames, IsNumberedCommand, HasNoLanes};
+ghost use Rattle.script_runner.specs.Outcomes.{RunText, RunCause, UsageText, UsageCause, SourceText, SourceCause, BytesText, BytesCause, DocumentText, ScriptText, ScriptCause, FaultText, FaultCause, Untouched, UntouchedBy, OrdersOf, OrdersBy, OrdersMade, IsBad, bad_text, Asks, AsksFor};
+ghost use Rattle.script_runner.specs.Standing.{Falls, Carries};
+ghost use Rattle.script_runner.specs.Worlds.{StandsOn, world_of};
 
+use crate::check::check_source;
 use crate::document::{Document, read_document};
 use crate::put::put_all;
 use crate::read::{ReadError, read_at_most};
-use crate::script::{is_served, perform};
+use crate::script::perform;
 use crate::status::Status;
-use crate::store::Store;
-use crate::words::{Start, read_words};
+use crate::store::{Store, crash};
+use crate::words::{Request, Start, read_words};
+use delf_book::BookFault;
+use delf_disk::{Area, Rig};
 use delf_io::{Clock, Sink, Source};
 use delf_model::{Bytes, Command, Moment, Schema};
-use job_report::fault_line;
+use delf_recovery::OpenFault;
+use job_report::{bad_journal_line, bad_vault_line, down_line, fault_line, opened_line};
 use script_lang::DocumentFault;
 use std::alloc::{AllocError, Global};
 
 /// The greatest number of bytes that are read: one more than a document has.
-const READ_LIMIT: usize = 16_777_217;
+pub const READ_LIMIT: usize = 16_777_217;
 
-/// Runs the program with these words: reads a document from `source`, makes its commands from the empty history on,
-/// and puts their lines to `sink`. The moment of the start is the one that the words give, or the clock's answer, which
-/// is asked for once the document was accepted.
-pub fn run_plain<S: Source, K: Sink, C: Clock>(
+/// The greatest moment.
+const GREATEST_MOMENT: Moment = 999_999_999_999;
+
+/// Runs the program with these words: reads a document from `source`, opens the store on `rig`, makes the commands, and puts
+/// their lines to `sink`. The moment of the start is the one that the words give, or the clock's answer, which is asked for
+/// once the document was accepted. The disk comes back.
+pub fn run_plain<S: Source, K: Sink, R: Rig, C: Clock>(
     alloc: Global,
     words: &[String],
     source: &mut S,
     sink: &mut K,
+    rig: R,
     clock: &mut C,
-) -> Status
-    // Why it ended so, and what it put.
-    ensures cause { RunCause (start_of (map string_bytes words.now)) (S.told source.old) (S.left source.old)
-        (Rose (S.faults source.old) (S.faults source.new)) (Rose (K.faults sink.old) (K.faults sink.new)) result }
-    ensures text { IsTrue (K.told sink.old) → RunText (start_of (map string_bytes words.now)) (C.last_answer clock.new)
-        (S.told source.old) (S.left source.old) (K.held sink.old) (K.held sink.new) result }
+) -> (Status, R)
+    // Why it ended so, and what it put and left on the disk.
+    ensures cause { RunCause (request_of (map string_bytes words.now)) (S.told source.old) (S.left source.old)
+        (Rose (S.faults source.old) (S.faults source.new)) (Rose (K.faults sink.old) (K.faults sink.new)) (DiskRose (R.Disk.faults rig) (R.Disk.faults result.1))
+        (λ rules area at. Plain (R.Disk.told rig) (R.Disk.honest rig) → IsBad rules (R.Disk.seen rig) area at) result.0 }
+    ensures text { IsTrue (K.told sink.old) → RunText (request_of (map string_bytes words.now)) (C.last_answer clock.new)
+        (S.told source.old) (S.left source.old) (λ moment document status. Plain (R.Disk.told rig) (R.Disk.honest rig) → DocumentText document moment (R.Disk.seen rig) (R.Disk.may_leave rig)
+        (R.Disk.faults rig) (R.Disk.faults result.1) (R.Disk.may_leave result.1) (K.held sink.old) (K.held sink.new) status)
+        (K.held sink.old) (K.held sink.new) result.0 }
 
     // What it leaves.
     ensures read { IsTrue (S.told source.old) → (read : List ℕ) × (length read ≤ 16777217)
         × (S.left source.old ≡ read ++ S.left source.new) }
     ensures same_source { S.told source.new ≡ S.told source.old }
     ensures same_sink { K.told sink.new ≡ K.told sink.old }
-    ensures source_faults { S.faults source.old ≤ S.faults source.new }
     ensures sink_faults { K.faults sink.old ≤ K.faults sink.new }
-    ensures asked { Asks (start_of (map string_bytes words.now)) result (C.times_asked clock.old) (C.times_asked clock.new) }
+    ensures telling { SameTelling R.Disk.told R.Disk.honest rig result.1 }
+    ensures rig_faults { R.Disk.faults rig ≤ R.Disk.faults result.1 }
+    ensures source_faults { S.faults source.old ≤ S.faults source.new }
+    ensures untouched { UntouchedBy (request_of (map string_bytes words.now)) (result.1 ≡ rig) result.0 }
+    ensures orders { OrdersBy (request_of (map string_bytes words.now)) (S.told source.old) (S.left source.old) (R.Disk.order rig) (R.Disk.orders rig) (R.Disk.order result.1) (R.Disk.orders result.1) result.0 }
+    ensures asked { Asks (request_of (map string_bytes words.now)) result.0 (C.times_asked clock.old) (C.times_asked clock.new) }
 {
     match read_words(words) {
-        Some(start) => run_source(alloc, start, source, sink, clock),
-        None => put_usage(sink),
+        Some(Request::Run(start)) => run_source(alloc, start, source, sink, rig, clock),
+        Some(Request::Check) => (check_source(alloc, source, sink), rig),
+        Some(Request::Load { .. }) | None => (put_usage(sink), rig),
     }
 }
 
@@ -68,88 +94,75 @@ fn put_usage<K: Sink>(sink: &mut K) -> Status
     }
 }
 
-fn run_source<S: Source, K: Sink, C: Clock>(
+fn run_source<S: Source, K: Sink, R: Rig, C: Clock>(
     alloc: Global,
     start: Start,
     source: &mut S,
     sink: &mut K,
+    rig: R,
     clock: &mut C,
-) -> Status
+) -> (Status, R)
     ensures cause { SourceCause (S.told source.old) (S.left source.old)
-        (Rose (S.faults source.old) (S.faults source.new)) (Rose (K.faults sink.old) (K.faults sink.new)) result }
+        (Rose (S.faults source.old) (S.faults source.new)) (Rose (K.faults sink.old) (K.faults sink.new)) (DiskRose (R.Disk.faults rig) (R.Disk.faults result.1))
+        (λ rules area at. Plain (R.Disk.told rig) (R.Disk.honest rig) → IsBad rules (R.Disk.seen rig) area at) result.0 }
     ensures text { IsTrue (K.told sink.old) → SourceText (S.told source.old) (S.left source.old)
-        (moment_of_start start (C.last_answer clock.new)) (K.held sink.old) (K.held sink.new) result }
+        (λ document status. Plain (R.Disk.told rig) (R.Disk.honest rig) → DocumentText document (moment_of_start start (C.last_answer clock.new)) (R.Disk.seen rig) (R.Disk.may_leave rig)
+        (R.Disk.faults rig) (R.Disk.faults result.1) (R.Disk.may_leave result.1) (K.held sink.old) (K.held sink.new) status)
+        (K.held sink.old) (K.held sink.new) result.0 }
     ensures read { IsTrue (S.told source.old) → (read : List ℕ) × (length read ≤ 16777217)
         × (S.left source.old ≡ read ++ S.left source.new) }
     ensures same_source { S.told source.new ≡ S.told source.old }
     ensures same_sink { K.told sink.new ≡ K.told sink.old }
-    ensures source_faults { S.faults source.old ≤ S.faults source.new }
     ensures sink_faults { K.faults sink.old ≤ K.faults sink.new }
-    ensures asked { AsksFor start result (C.times_asked clock.old) (C.times_asked clock.new) }
+    ensures telling { SameTelling R.Disk.told R.Disk.honest rig result.1 }
+    ensures rig_faults { R.Disk.faults rig ≤ R.Disk.faults result.1 }
+    ensures source_faults { S.faults source.old ≤ S.faults source.new }
+    ensures untouched { Untouched (result.1 ≡ rig) result.0 }
+    ensures orders { IsTrue (S.told source.old) → OrdersOf (S.left source.old) (R.Disk.order rig) (R.Disk.orders rig) (R.Disk.order result.1) (R.Disk.orders result.1) result.0 }
+    ensures asked { AsksFor start result.0 (C.times_asked clock.old) (C.times_asked clock.new) }
 {
     match read_at_most(alloc, source, READ_LIMIT) {
-        Ok(bytes) => run_bytes(alloc, start, bytes.as_slice(), sink, clock),
-        Err(ReadError::Failed) => Status::ReadFault,
-        Err(ReadError::OutOfMemory) => Status::OutOfMemory { done: 0 },
+        Ok(bytes) => run_bytes(alloc, start, bytes.as_slice(), sink, rig, clock),
+        Err(ReadError::Failed) => (Status::ReadFault, rig),
+        Err(ReadError::OutOfMemory) => (Status::OutOfMemory { done: 0 }, rig),
     }
 }
 
-fn run_bytes<K: Sink, C: Clock>(
+fn run_bytes<K: Sink, R: Rig, C: Clock>(
     alloc: Global,
     start: Start,
     bytes: &[u8],
     sink: &mut K,
+    rig: R,
     clock: &mut C,
-) -> Status
-    ensures cause { BytesCause bytes.now (Rose (K.faults sink.old) (K.faults sink.new)) result }
-    ensures text { IsTrue (K.told sink.old) → BytesText bytes.now (moment_of_start start (C.last_answer clock.new))
-        (K.held sink.old) (K.held sink.new) result }
+) -> (Status, R)
+    ensures cause { BytesCause bytes.now (Rose (K.faults sink.old) (K.faults sink.new)) (DiskRose (R.Disk.faults rig) (R.Disk.faults result.1))
+        (λ rules area at. Plain (R.Disk.told rig) (R.Disk.honest rig) → IsBad rules (R.Disk.seen rig) area at) result.0 }
+    ensures text { IsTrue (K.told sink.old) → BytesText bytes.now
+        (λ document status. Plain (R.Disk.told rig) (R.Disk.honest rig) → DocumentText document (moment_of_start start (C.last_answer clock.new)) (R.Disk.seen rig) (R.Disk.may_leave rig)
+        (R.Disk.faults rig) (R.Disk.faults result.1) (R.Disk.may_leave result.1) (K.held sink.old) (K.held sink.new) status)
+        (K.held sink.old) (K.held sink.new) result.0 }
     ensures same_sink { K.told sink.new ≡ K.told sink.old }
     ensures sink_faults { K.faults sink.old ≤ K.faults sink.new }
-    ensures asked { AsksFor start result (C.times_asked clock.old) (C.times_asked clock.new) }
+    ensures telling { SameTelling R.Disk.told R.Disk.honest rig result.1 }
+    ensures rig_faults { R.Disk.faults rig ≤ R.Disk.faults result.1 }
+    ensures untouched { Untouched (result.1 ≡ rig) result.0 }
+    ensures orders { OrdersOf bytes.now (R.Disk.order rig) (R.Disk.orders rig) (R.Disk.order result.1) (R.Disk.orders result.1) result.0 }
+    ensures asked { AsksFor start result.0 (C.times_asked clock.old) (C.times_asked clock.new) }
 {
-    let document = match read_served(alloc, bytes) {
+    let document = match read_document(alloc, bytes) {
         Ok(document) => document,
-        Err(fault) => return put_fault(alloc, fault, sink),
+        Err(fault) => return (put_fault(alloc, fault, sink), rig),
     };
     let moment = match start {
         Start::At(moment) => moment,
         Start::Asked => clock.now(),
     };
-    run_document(alloc, moment, document, sink)
+    run_document(alloc, moment, document, sink, rig)
 }
 
-// The document that the bytes spell, where each of its commands is served.
-fn read_served(alloc: Global, bytes: &[u8]) -> Result<Document, DocumentFault>
-    ensures document { IfOk result (IsDocument bytes.now) }
-    ensures served { IfOk result (λ document. All IsServed document.commands) }
-    ensures named { IfOk result (λ document. HasNames document.schema document.rules) }
-    ensures numbered { IfOk result (λ document. All (IsNumberedCommand document.rules) document.commands) }
-    ensures fault { IfErr result (IsRefusal bytes.now) }
-{
-    let document = match read_document(alloc, bytes) {
-        Ok(document) => document,
-        Err(fault) => return Err(fault),
-    };
-    if document.commands.as_slice().iter().all(is_served) {
-        Ok(document)
-    } else {
-        Err(unserved(alloc))
-    }
-}
-
-// What is told of a document with a command that is not served.
-fn unserved(alloc: Global) -> DocumentFault
-    ensures { IsLineTold result 0 (codes "not served") }
-{
-    match Bytes::of(alloc, b"not served") {
-        Ok(text) => DocumentFault::Bad { line: 0, text },
-        Err(AllocError) => DocumentFault::OutOfMemory,
-    }
-}
-
-// Puts the line of a fault.
-fn put_fault<K: Sink>(alloc: Global, fault: DocumentFault, sink: &mut K) -> Status
+/// Puts the line of a fault.
+pub fn put_fault<K: Sink>(alloc: Global, fault: DocumentFault, sink: &mut K) -> Status
     ensures cause { FaultCause fault (Rose (K.faults sink.old) (K.faults sink.new)) result }
     ensures text { IsTrue (K.told sink.old) → FaultText fault (K.held sink.old) (K.held sink.new) result }
     ensures same_sink { K.told sink.new ≡ K.told sink.old }
@@ -167,15 +180,28 @@ fn put_fault<K: Sink>(alloc: Global, fault: DocumentFault, sink: &mut K) -> Stat
     }
 }
 
-fn run_document<K: Sink>(alloc: Global, moment: Moment, document: Document, sink: &mut K) -> Status
+// Opens the store, and makes the commands of a document.
+fn run_document<K: Sink, R: Rig>(
+    alloc: Global,
+    moment: Moment,
+    document: Document,
+    sink: &mut K,
+    rig: R,
+) -> (Status, R)
+    requires spellable { IsSpellable document.schema }
+    requires rules { document.rules ≡ numbered document.schema }
     requires named { HasNames document.schema document.rules }
     requires numbered { All (IsNumberedCommand document.rules) document.commands }
-    requires served { All IsServed document.commands }
-    ensures cause { ScriptCause (Rose (K.faults sink.old) (K.faults sink.new)) result }
-    ensures text { IsTrue (K.told sink.old) → ScriptText document.schema (first_world document.rules moment)
-        document.commands (K.held sink.old) (K.held sink.new) result }
+    requires lanes { All HasNoLanes document.commands }
+    ensures cause { ScriptCause (Rose (K.faults sink.old) (K.faults sink.new)) (DiskRose (R.Disk.faults rig) (R.Disk.faults result.1))
+        (λ area at. Plain (R.Disk.told rig) (R.Disk.honest rig) → IsBad document.rules (R.Disk.seen rig) area at) result.0 }
+    ensures text { IsTrue (K.told sink.old) → Plain (R.Disk.told rig) (R.Disk.honest rig) → DocumentText document moment (R.Disk.seen rig) (R.Disk.may_leave rig)
+        (R.Disk.faults rig) (R.Disk.faults result.1) (R.Disk.may_leave result.1) (K.held sink.old) (K.held sink.new) result.0 }
     ensures same_sink { K.told sink.new ≡ K.told sink.old }
     ensures sink_faults { K.faults sink.old ≤ K.faults sink.new }
+    ensures telling { SameTelling R.Disk.told R.Disk.honest rig result.1 }
+    ensures rig_faults { R.Disk.faults rig ≤ R.Disk.faults result.1 }
+    ensures orders { OrdersMade document.commands (R.Disk.order rig) (R.Disk.orders rig) (R.Disk.order result.1) (R.Disk.orders result.1) result.0 }
 {
     let Document {
         schema,
@@ -184,42 +210,188 @@ fn run_document<K: Sink>(alloc: Global, moment: Moment, document: Document, sink
     } = document;
     // So many do not fit in a document.
     if commands.len() > u32::MAX as usize {
-        return Status::OutOfMemory { done: 0 };
+        return (Status::OutOfMemory { done: 0 }, rig);
     }
-    let Ok(store) = Store::new(alloc, rules, moment) else {
-        return Status::OutOfMemory { done: 0 };
-    };
-    run_commands(alloc, &schema, store, commands.as_slice(), sink)
+    match Store::open(alloc, rules, rig, moment.min(GREATEST_MOMENT)) {
+        Ok(store) => run_commands(alloc, &schema, store, commands.as_slice(), sink),
+        Err((fault, rig)) => (put_unopened(alloc, fault, 0, sink), rig),
+    }
 }
 
-fn run_commands<K: Sink>(
-    alloc: Global,
-    schema: &Schema,
-    mut store: Store,
-    commands: &[Command],
-    sink: &mut K,
-) -> Status
-    requires count { length commands.now < 2 ^ 32 }
-    requires named { HasNames schema.now store.rules }
-    requires numbered { All (IsNumberedCommand store.rules) commands.now }
-    requires served { All IsServed commands.now }
-    ensures cause { ScriptCause (Rose (K.faults sink.old) (K.faults sink.new)) result }
-    ensures text { IsTrue (K.told sink.old) → ScriptText schema.now store commands.now (K.held sink.old)
-        (K.held sink.new) result }
+// Puts the line of an opening that failed after so many commands.
+fn put_unopened<K: Sink>(alloc: Global, fault: OpenFault, done: u32, sink: &mut K) -> Status
+    ensures cause { UnopenedCause fault done (Rose (K.faults sink.old) (K.faults sink.new)) result }
+    ensures text { IsTrue (K.told sink.old) → UnopenedText fault (K.held sink.old) (K.held sink.new) result }
     ensures same_sink { K.told sink.new ≡ K.told sink.old }
     ensures sink_faults { K.faults sink.old ≤ K.faults sink.new }
 {
+    let (line, status) = match fault {
+        OpenFault::OutOfMemory => return Status::OutOfMemory { done },
+        OpenFault::DiskFault => (down_line(alloc, 0), Status::Down { len: 0 }),
+        OpenFault::BadStore { area, at } => (
+            bad_line(alloc, area, at),
+            Status::BadStore { area, at },
+        ),
+    };
+    let Ok(line) = line else {
+        return Status::OutOfMemory { done };
+    };
+    match put_all(sink, line.as_slice()) {
+        Ok(()) => status,
+        Err(_) => Status::WriteFault { done },
+    }
+}
+
+// The line of a bad store.
+fn bad_line(alloc: Global, area: Area, at: u64) -> Result<Bytes, AllocError>
+    ensures { IfOk result (λ line. line ≡ bad_text area at) }
+{
+    match area {
+        Area::Journal => bad_journal_line(alloc, at),
+        Area::Vault => bad_vault_line(alloc, at),
+    }
+}
+
+// Makes the commands one by one, puts the lines of each, and settles the store.
+fn run_commands<K: Sink, R: Rig>(
+    alloc: Global,
+    schema: &Schema,
+    mut store: Store<R>,
+    commands: &[Command],
+    sink: &mut K,
+) -> (Status, R)
+    requires count { length commands.now < 2 ^ 32 }
+    requires up { store.book.down ≡ false }
+    requires spellable { IsSpellable schema.now }
+    requires rules { store.book.rules ≡ numbered schema.now }
+    requires named { HasNames schema.now store.book.rules }
+    requires numbered { All (IsNumberedCommand store.book.rules) commands.now }
+    requires lanes { All HasNoLanes commands.now }
+    ensures cause { ScriptCause (Rose (K.faults sink.old) (K.faults sink.new)) (DiskRose (R.Disk.faults store.book.rig) (R.Disk.faults result.1))
+        (λ area at. Plain (R.Disk.told store.book.rig) (R.Disk.honest store.book.rig) → (e : Payloads)
+        → StandsOn (world_of store.book store.clock e) (R.Disk.may_leave store.book.rig) → ⊥) result.0 }
+    ensures text { IsTrue (K.told sink.old) → Plain (R.Disk.told store.book.rig) (R.Disk.honest store.book.rig) → (e : Payloads)
+        → StandsOn (world_of store.book store.clock e) (R.Disk.may_leave store.book.rig)
+        → ScriptText schema.now (world_of store.book store.clock e) commands.now (R.Disk.faults store.book.rig) (R.Disk.faults result.1) (R.Disk.may_leave result.1)
+        (K.held sink.old) (K.held sink.new) result.0 }
+    ensures same_sink { K.told sink.new ≡ K.told sink.old }
+    ensures sink_faults { K.faults sink.old ≤ K.faults sink.new }
+    ensures telling { SameTelling R.Disk.told R.Disk.honest store.book.rig result.1 }
+    ensures rig_faults { R.Disk.faults store.book.rig ≤ R.Disk.faults result.1 }
+    ensures orders { OrdersMade commands.now (R.Disk.order store.book.rig) (R.Disk.orders store.book.rig) (R.Disk.order result.1) (R.Disk.orders result.1) result.0 }
+{
     let mut done = 0u32;
     for command in commands {
-        let Ok(lines) = perform(alloc, schema, &mut store, command) else {
-            return Status::OutOfMemory { done };
+        let lines = match make(alloc, schema, store, command) {
+            Ok((next, lines)) => {
+                store = next;
+                lines
+            }
+            Err((fault, rig)) => return (put_unopened(alloc, fault, done, sink), rig),
         };
         let Ok(()) = put_all(sink, lines.as_slice()) else {
-            return Status::WriteFault { done };
+            let Store { book, clock: _ } = store;
+            let _len = book.len();
+            return (Status::WriteFault { done }, book.into_disk());
         };
         done += 1;
     }
-    // The history is legal, and so sound.
-    let _len = store.len();
-    Status::Done
+    finish(alloc, store, done, sink)
+}
+
+// Makes a command, and gives its lines. With `Err` the disk comes back.
+fn make<R: Rig>(
+    alloc: Global,
+    schema: &Schema,
+    mut store: Store<R>,
+    command: &Command,
+) -> Result<(Store<R>, Bytes), (OpenFault, R)>
+    requires spellable { IsSpellable schema.now }
+    requires rules { store.book.rules ≡ numbered schema.now }
+    requires named { HasNames schema.now store.book.rules }
+    requires numbered { IsNumberedCommand store.book.rules command.now }
+    requires lanes { HasNoLanes command.now }
+    ensures same_rules { IfOk result (λ it. it.0.book.rules ≡ store.book.rules) }
+    ensures serves { IfOk result (λ it. Plain (R.Disk.told store.book.rig) (R.Disk.honest store.book.rig) → (e : Payloads)
+        → Carries R.Disk.may_leave R.Disk.faults schema.now command.now store.book it.0.book store.clock it.0.clock e it.1) }
+    ensures stops { IfErr result (λ it. Plain (R.Disk.told store.book.rig) (R.Disk.honest store.book.rig) → (e : Payloads)
+        → Stops R.Disk.may_leave command.now store.book store.clock e it.1 it.0) }
+    ensures ok_telling { IfOk result (λ it. SameTelling R.Disk.told R.Disk.honest store.book.rig it.0.book.rig) }
+    ensures err_telling { IfErr result (λ it. SameTelling R.Disk.told R.Disk.honest store.book.rig it.1) }
+    ensures ok_orders { IfOk result (λ it. Gives command.now (R.Disk.order store.book.rig) (R.Disk.orders store.book.rig) (R.Disk.order it.0.book.rig) (R.Disk.orders it.0.book.rig)) }
+    ensures err_orders { IfErr result (λ it. MayGive command.now (R.Disk.order store.book.rig) (R.Disk.orders store.book.rig) (R.Disk.order it.1) (R.Disk.orders it.1)) }
+    ensures ok_count { IfOk result (λ it. Falls R.Disk.faults store.book it.0.book) }
+    ensures err_count { IfErr result (λ it. StopCounts (R.Disk.faults store.book.rig) (R.Disk.faults it.1) it.0) }
+{
+    if let Command::Crash { pick } = command {
+        return match crash(alloc, schema, store, *pick) {
+            Ok(store) => {
+                let _len = store.book.len();
+                opened(alloc, store)
+            }
+            Err(fault) => Err(fault),
+        };
+    }
+    match perform(alloc, schema, &mut store, command) {
+        Ok(lines) => Ok((store, lines)),
+        Err(_) => {
+            let Store { book, clock: _ } = store;
+            Err((OpenFault::OutOfMemory, book.into_disk()))
+        }
+    }
+}
+
+// The line of an opening.
+fn opened<R: Rig>(alloc: Global, store: Store<R>) -> Result<(Store<R>, Bytes), (OpenFault, R)>
+    ensures same { IfOk result (λ it. it.0 ≡ store) }
+    ensures text { IfOk result (λ it. it.1 ≡ opened_text (length store.book.history)) }
+    ensures rig { IfErr result (λ it. it.1 ≡ store.book.rig) }
+    ensures fault { IfErr result (λ it. it.0 ≡ OpenFault.OutOfMemory) }
+{
+    match opened_line(alloc, store.book.len()) {
+        Ok(line) => Ok((store, line)),
+        Err(_) => {
+            let Store { book, clock: _ } = store;
+            Err((OpenFault::OutOfMemory, book.into_disk()))
+        }
+    }
+}
+
+// Settles the store, after so many commands.
+fn finish<K: Sink, R: Rig>(alloc: Global, store: Store<R>, done: u32, sink: &mut K) -> (Status, R)
+    ensures cause { EndCause done (Rose (K.faults sink.old) (K.faults sink.new)) ((store.book.down ≡ true) ⊎ DiskRose (R.Disk.faults store.book.rig) (R.Disk.faults result.1)) result.0 }
+    ensures text { IsTrue (K.told sink.old) → Plain (R.Disk.told store.book.rig) (R.Disk.honest store.book.rig) → (e : Payloads)
+        → StandsOn (world_of store.book store.clock e) (R.Disk.may_leave store.book.rig)
+        → EndText (world_of store.book store.clock e) done (R.Disk.faults store.book.rig) (R.Disk.faults result.1) (R.Disk.may_leave result.1)
+        (K.held sink.old) (K.held sink.new) result.0 }
+    ensures history { Legal store.book.rules store.book.history × Sound store.book.rules store.book.history }
+    ensures same_sink { K.told sink.new ≡ K.told sink.old }
+    ensures sink_faults { K.faults sink.old ≤ K.faults sink.new }
+    ensures rig_faults { R.Disk.faults store.book.rig ≤ R.Disk.faults result.1 }
+    ensures kind { SameKind R.Disk.told R.Disk.honest R.Disk.order R.Disk.orders store.book.rig result.1 }
+{
+    let Store { mut book, clock: _ } = store;
+    let _len = book.len();
+    let status = match book.settle() {
+        Ok(()) => Status::Done,
+        Err(BookFault::Down { len }) => Status::Down { len },
+        Err(BookFault::DiskFault { len }) => put_down(alloc, len, done, sink),
+    };
+    (status, book.into_disk())
+}
+
+// Puts the line of a disk fault in the last settling.
+fn put_down<K: Sink>(alloc: Global, len: u32, done: u32, sink: &mut K) -> Status
+    ensures cause { DownCause len done (Rose (K.faults sink.old) (K.faults sink.new)) result }
+    ensures text { IsTrue (K.told sink.old) → DownText len (K.held sink.old) (K.held sink.new) result }
+    ensures same_sink { K.told sink.new ≡ K.told sink.old }
+    ensures sink_faults { K.faults sink.old ≤ K.faults sink.new }
+{
+    let Ok(line) = down_line(alloc, len) else {
+        return Status::OutOfMemory { done };
+    };
+    match put_all(sink, line.as_slice()) {
+        Ok(()) => Status::Down { len },
+        Err(_) => Status::WriteFault { done },
+    }
 }

@@ -1,66 +1,219 @@
-ghost use Rattle.std.specs.Prelude.{◌≡◌, IfOk, OnOk, IsTrue};
+ghost use Rattle.std.specs.Prelude.{◌≡◌, ◌≤◌, false, IfOk, OnErr, []};
+ghost use Rattle.delf_disk.specs.Plain.{Plain, SameKind, SameTelling};
+ghost use Rattle.delf_model.specs.declared.schema.Schema.{Schema as ASchema};
+ghost use Rattle.delf_model.specs.declared.call.Refusal.TheVariants as refused;
+ghost use Rattle.delf_model.specs.declared.script.Command.TheVariants.{Work};
+ghost use Rattle.job_report.specs.Texts.{refusal_text};
+ghost use Rattle.delf_model.specs.Graph.{object_at};
+ghost use Rattle.delf_model.specs.Payloads.{Payloads};
+ghost use Rattle.script_runner.specs.Lines.{LineLeaves, Tells};
 ghost use Rattle.script_runner.specs.Names.{HasNames, IsNumberedCommand};
-ghost use Rattle.script_runner.specs.Serial.{lines_of, next_world, is_served, steps_made, world_worked, work_line as work_line_of};
+ghost use Rattle.script_runner.specs.Orders.{Gives};
+ghost use Rattle.script_runner.specs.Serial.{row_found, graph_lines, report_line};
+ghost use Rattle.script_runner.specs.Standing.{Falls, Carries, Halted, StepsCarry, ReadsOut, StaysHeld, IsServed, LineSaid};
+ghost use Rattle.script_runner.specs.Worlds.{state_of};
 
 use crate::answers::submit;
-use crate::jobs::{job, jobs, report};
-use crate::shows::{get, show};
+use crate::faults::LineFault;
+use crate::jobs::{job, jobs, report_text};
+use crate::names::unprinted_name;
+use crate::shows::{found, graph_shown};
 use crate::store::Store;
-use delf_model::{Bytes, Command, Schema};
-use job_report::{WorkEnd, work_line};
+use delf_book::{Book, BookFault, StepFault, Worked};
+use delf_disk::Rig;
+use delf_model::{Bytes, Command, Moment, ObjectId, Refusal, Schema};
+use job_report::{WorkEnd, down_line, refusal_line, work_line};
+use live_graph::ListGraph;
 use std::alloc::{AllocError, Global};
 
-/// Makes a command, and gives its lines. The only error is want of memory.
-#[tactic(auto, unfolding(crate::specs::Serial::lines_of, crate::specs::Serial::next_world))]
-pub fn perform(
+/// Makes a command that keeps the store open, and gives its lines. The only error is want of memory.
+pub(crate) fn perform<R: Rig>(
     alloc: Global,
     schema: &Schema,
-    store: &mut Store,
+    store: &mut Store<R>,
     command: &Command,
 ) -> Result<Bytes, AllocError>
-    requires named { HasNames schema.now store.old.rules }
-    requires numbered { IsNumberedCommand store.old.rules command.now }
-    requires served { IsTrue (is_served command.now) }
-    ensures lines { IfOk result (λ text. text ≡ lines_of schema.now store.old command.now) }
-    ensures next { OnOk result (store.new ≡ next_world store.old command.now) }
+    requires named { HasNames schema.now store.old.book.rules }
+    requires numbered { IsNumberedCommand store.old.book.rules command.now }
+    requires served { IsServed command.now }
+    ensures rules { store.new.book.rules ≡ store.old.book.rules }
+    ensures serves { IfOk result (λ text. Plain (R.Disk.told store.old.book.rig) (R.Disk.honest store.old.book.rig) → (e : Payloads)
+        → Carries R.Disk.may_leave R.Disk.faults schema.now command.now store.old.book store.new.book store.old.clock store.new.clock e text) }
+    ensures halts { OnErr result (Plain (R.Disk.told store.old.book.rig) (R.Disk.honest store.old.book.rig) → (e : Payloads)
+        → Halted R.Disk.may_leave command.now store.old.book store.old.clock e store.new.book.rig) }
+    ensures telling { SameTelling R.Disk.told R.Disk.honest store.old.book.rig store.new.book.rig }
+    ensures orders { Gives command.now (R.Disk.order store.old.book.rig) (R.Disk.orders store.old.book.rig) (R.Disk.order store.new.book.rig) (R.Disk.orders store.new.book.rig) }
+    ensures cause { Falls R.Disk.faults store.old.book store.new.book }
 {
+    let _len = store.book.len();
     match command {
-        Command::Submit(call) => submit(alloc, schema, store, call),
-        Command::Work { n } => work(alloc, store, *n),
+        Command::Submit(call) => submit(alloc, schema, &mut store.book, store.clock, call),
+        Command::Work { n } => work(alloc, &mut store.book, store.clock, *n),
         Command::Tick { n } => {
             store.tick(*n);
             Ok(Bytes::from_vec(Vec::new(alloc)))
         }
-        Command::Get(id) => get(alloc, schema, store, *id),
-        Command::Show => show(alloc, schema, store),
-        Command::Job(name) => job(alloc, schema, store, name),
-        Command::Jobs => jobs(alloc, store),
-        Command::Report => report(alloc, store),
-        Command::Fail { .. } => unreachable!(),
+        Command::Get(id) => get(alloc, schema, &mut store.book, *id),
+        Command::Show => show(alloc, schema, &mut store.book),
+        Command::Job(name) => job(alloc, schema, &store.book, name),
+        Command::Jobs => jobs(alloc, &store.book),
+        Command::Report => report(alloc, &mut store.book),
+        Command::Fail { n } => {
+            store.book.fail_after(*n);
+            Ok(Bytes::from_vec(Vec::new(alloc)))
+        }
         Command::Crash { .. } => unreachable!(),
         Command::Par { .. } => unreachable!(),
     }
 }
 
-/// Whether this program serves the command.
-pub fn is_served(command: &Command) -> bool
-    ensures { result ≡ is_served command.now }
+// Makes steps until none is left, `n` at most, and gives the line of it.
+fn work<R: Rig>(
+    alloc: Global,
+    book: &mut Book<ListGraph, R>,
+    clock: Moment,
+    n: u32,
+) -> Result<Bytes, AllocError>
+    ensures rules { book.new.rules ≡ book.old.rules }
+    ensures serves { IfOk result (λ text. Plain (R.Disk.told book.old.rig) (R.Disk.honest book.old.rig) → (schema : ASchema) (e : Payloads)
+        → Carries R.Disk.may_leave R.Disk.faults schema (Work n) book.old book.new clock clock e text) }
+    ensures halts { OnErr result (Plain (R.Disk.told book.old.rig) (R.Disk.honest book.old.rig) → (e : Payloads)
+        → Halted R.Disk.may_leave (Work n) book.old clock e book.new.rig) }
+    ensures kind { SameKind R.Disk.told R.Disk.honest R.Disk.order R.Disk.orders book.old.rig book.new.rig }
+    ensures cause { Falls R.Disk.faults book.old book.new }
 {
-    !matches!(
-        command,
-        Command::Fail { .. } | Command::Crash { .. } | Command::Par { .. }
-    )
+    let len = book.len();
+    if book.is_down() {
+        return down_refused(alloc, len);
+    }
+    let (made, end) = make_steps(book, clock, n)?;
+    let _after = book.len();
+    work_line(alloc, made, end)
 }
 
-// Makes steps until none is left, `n` at most, and gives the line of it.
-fn work(alloc: Global, store: &mut Store, n: u32) -> Result<Bytes, AllocError>
-    ensures line { IfOk result (λ text. text ≡ work_line_of n (steps_made n store.old)) }
-    ensures worked { OnOk result (store.new ≡ world_worked n store.old) }
+// Makes steps until none is left, `n` at most, and gives their number with why no more were made.
+fn make_steps<R: Rig>(
+    book: &mut Book<ListGraph, R>,
+    clock: Moment,
+    n: u32,
+) -> Result<(u32, WorkEnd), AllocError>
+    requires up { book.old.down ≡ false }
+    ensures rules { book.new.rules ≡ book.old.rules }
+    ensures made { IfOk result (λ it. it.0 ≤ n) }
+    ensures steps { IfOk result (λ it. Plain (R.Disk.told book.old.rig) (R.Disk.honest book.old.rig) → (e : Payloads)
+        → StepsCarry R.Disk.may_leave R.Disk.faults n book.old book.new clock e it.0 it.1) }
+    ensures halts { OnErr result (Plain (R.Disk.told book.old.rig) (R.Disk.honest book.old.rig) → (e : Payloads)
+        → Halted R.Disk.may_leave (Work n) book.old clock e book.new.rig) }
+    ensures kind { SameKind R.Disk.told R.Disk.honest R.Disk.order R.Disk.orders book.old.rig book.new.rig }
+    ensures cause { Falls R.Disk.faults book.old book.new }
 {
     for made in 0..n {
-        if store.step(alloc)?.is_none() {
-            return work_line(alloc, made, WorkEnd::Idle);
+        let _len = book.len();
+        match book.work(clock) {
+            Ok(Worked::Stepped { .. }) => {}
+            Ok(Worked::Idle { .. }) => return Ok((made, WorkEnd::Idle)),
+            Err(StepFault::OutOfMemory) => return Err(AllocError),
+            Err(StepFault::DiskFault { len }) => return Ok((made, WorkEnd::Down { len })),
+            Err(StepFault::Damaged { item, .. }) => return Ok((made, WorkEnd::Damaged { item })),
+            Err(StepFault::Down { .. }) => unreachable!(),
         }
     }
-    work_line(alloc, n, WorkEnd::All)
+    Ok((n, WorkEnd::All))
+}
+
+// The line of an object with its owner.
+fn get<R: Rig>(
+    alloc: Global,
+    schema: &Schema,
+    book: &mut Book<ListGraph, R>,
+    id: ObjectId,
+) -> Result<Bytes, AllocError>
+    requires named { HasNames schema.now book.old.rules }
+    ensures rules { book.new.rules ≡ book.old.rules }
+    ensures serves { IfOk result (λ text. Plain (R.Disk.told book.old.rig) (R.Disk.honest book.old.rig)
+        → ReadsOut R.Disk.may_leave R.Disk.faults (λ w. row_found schema.now w id (object_at (state_of w).graph id)) book.old book.new text) }
+    ensures halts { OnErr result (Plain (R.Disk.told book.old.rig) (R.Disk.honest book.old.rig) → StaysHeld R.Disk.may_leave book.old book.new) }
+    ensures kind { SameKind R.Disk.told R.Disk.honest R.Disk.order R.Disk.orders book.old.rig book.new.rig }
+    ensures cause { Falls R.Disk.faults book.old book.new }
+{
+    let len = book.len();
+    if book.is_down() {
+        return down_refused(alloc, len);
+    }
+    let told = found(alloc, schema, book, id);
+    told_or_down(alloc, told)
+}
+
+// The lines of the graph.
+fn show<R: Rig>(
+    alloc: Global,
+    schema: &Schema,
+    book: &mut Book<ListGraph, R>,
+) -> Result<Bytes, AllocError>
+    requires named { HasNames schema.now book.old.rules }
+    ensures rules { book.new.rules ≡ book.old.rules }
+    ensures serves { IfOk result (λ text. Plain (R.Disk.told book.old.rig) (R.Disk.honest book.old.rig)
+        → ReadsOut R.Disk.may_leave R.Disk.faults (λ w. graph_lines schema.now w) book.old book.new text) }
+    ensures halts { OnErr result (Plain (R.Disk.told book.old.rig) (R.Disk.honest book.old.rig) → StaysHeld R.Disk.may_leave book.old book.new) }
+    ensures kind { SameKind R.Disk.told R.Disk.honest R.Disk.order R.Disk.orders book.old.rig book.new.rig }
+    ensures cause { Falls R.Disk.faults book.old book.new }
+{
+    let len = book.len();
+    if book.is_down() {
+        return down_refused(alloc, len);
+    }
+    let told = graph_shown(alloc, schema, book);
+    told_or_down(alloc, told)
+}
+
+// Settles, and gives the line of the report.
+fn report<R: Rig>(alloc: Global, book: &mut Book<ListGraph, R>) -> Result<Bytes, AllocError>
+    ensures rules { book.new.rules ≡ book.old.rules }
+    ensures serves { IfOk result (λ text. Plain (R.Disk.told book.old.rig) (R.Disk.honest book.old.rig)
+        → ReadsOut R.Disk.may_leave R.Disk.faults (λ w. report_line (state_of w)) book.old book.new text) }
+    ensures halts { OnErr result (Plain (R.Disk.told book.old.rig) (R.Disk.honest book.old.rig) → StaysHeld R.Disk.may_leave book.old book.new) }
+    ensures kind { SameKind R.Disk.told R.Disk.honest R.Disk.order R.Disk.orders book.old.rig book.new.rig }
+    ensures cause { Falls R.Disk.faults book.old book.new }
+{
+    let len = book.len();
+    if book.is_down() {
+        return down_refused(alloc, len);
+    }
+    let told = reported(alloc, book);
+    told_or_down(alloc, told)
+}
+
+// The line of the report, once the store is settled.
+fn reported<R: Rig>(alloc: Global, book: &mut Book<ListGraph, R>) -> Result<Bytes, LineFault>
+    requires up { book.old.down ≡ false }
+    ensures text { IfOk result (Tells R.Disk.told R.Disk.honest R.Disk.may_leave book.old (λ w. report_line (state_of w))) }
+    ensures leaves { LineLeaves R.Disk.told R.Disk.honest R.Disk.may_leave R.Disk.order R.Disk.orders R.Disk.faults book.old book.new result }
+{
+    match book.settle() {
+        Ok(()) => {}
+        Err(BookFault::DiskFault { len }) => return Err(LineFault::Failed { len }),
+        Err(BookFault::Down { .. }) => unreachable!(),
+    }
+    match report_text(alloc, book) {
+        Ok(text) => Ok(text),
+        Err(AllocError) => Err(LineFault::OutOfMemory),
+    }
+}
+
+// The lines, or the line of the disk fault in place of them.
+fn told_or_down(alloc: Global, told: Result<Bytes, LineFault>) -> Result<Bytes, AllocError>
+    ensures { IfOk result (λ text. LineSaid told text) }
+{
+    match told {
+        Ok(text) => Ok(text),
+        Err(LineFault::OutOfMemory) => Err(AllocError),
+        Err(LineFault::Failed { len }) => down_line(alloc, len),
+    }
+}
+
+// The line that is printed while the store is down.
+fn down_refused(alloc: Global, len: u32) -> Result<Bytes, AllocError>
+    ensures { IfOk result (λ text. text ≡ refusal_text (refused.Down len) len []) }
+{
+    refusal_line(alloc, &Refusal::Down { len }, len, &unprinted_name(alloc)?)
 }

@@ -1,50 +1,151 @@
-ghost use Rattle.std.specs.Prelude.{◌≡◌, ◌++◌, IfOk, flat_map, length};
+//! Lines that tell payloads, which are read off the disk.
+ghost use Rattle.std.specs.Prelude.{◌≡◌, ◌++◌, ◌≤◌, false, ℕ, IfOk, IfErr, Some, Ok, flat_map, length, take};
 ghost use Rattle.std.specs.List.{AllByRecursion};
-ghost use Rattle.delf_model.specs.Graph.{object_at};
-ghost use Rattle.script_runner.specs.Worlds.{state_of};
+ghost use Rattle.delf_model.specs.Graph.{object_at, edge_at};
+ghost use Rattle.delf_model.specs.Payloads.{payload_at};
+ghost use Rattle.delf_book.specs.Books.{state_in};
+ghost use Rattle.job_report.specs.Texts.{graph_text};
+ghost use Rattle.script_runner.specs.Lines.{LineLeaves, Tells};
 ghost use Rattle.script_runner.specs.Names.{HasNames, IsNumberedObject, IsNumberedEdge};
 ghost use Rattle.script_runner.specs.Serial.{row_found, graph_lines, object_line as object_line_of, edge_line as edge_line_of};
 
+use crate::faults::LineFault;
 use crate::names::{edge_name, kind_name};
-use crate::store::Store;
-use delf_model::{Bytes, EdgeRow, ObjectId, ObjectRow, Schema};
+use crate::readings::{edges, object, objects};
+use delf_book::{Book, BookFault};
+use delf_disk::Rig;
+use delf_model::{Bytes, EdgeKey, EdgeRow, LIMIT, ObjectId, ObjectRow, Schema};
 use job_report::{absent_line, edge_line, found_line, graph_line, object_line};
+use live_graph::ListGraph;
 use std::alloc::{AllocError, Global};
 
 /// The line of an object with its owner, or that there is none.
-pub fn get(alloc: Global, schema: &Schema, store: &Store, id: ObjectId) -> Result<Bytes, AllocError>
-    requires { HasNames schema.now store.now.rules }
-    ensures { IfOk result (λ text. text ≡ row_found schema.now store.now id (object_at (state_of store.now).graph id)) }
+pub(crate) fn found<R: Rig>(
+    alloc: Global,
+    schema: &Schema,
+    book: &mut Book<ListGraph, R>,
+    id: ObjectId,
+) -> Result<Bytes, LineFault>
+    requires named { HasNames schema.now book.old.rules }
+    requires up { book.old.down ≡ false }
+    ensures text { IfOk result (Tells R.Disk.told R.Disk.honest R.Disk.may_leave book.old (λ w. row_found schema.now w id (object_at (state_in book.old).graph id))) }
+    ensures leaves { LineLeaves R.Disk.told R.Disk.honest R.Disk.may_leave R.Disk.order R.Disk.orders R.Disk.faults book.old book.new result }
 {
-    match store.object(id) {
-        Some(row) => found_line(
-            alloc,
-            store.len(),
-            &row,
-            kind_name(schema, row.kind),
-            store.given(row.at),
-            store.owner(row.id),
-        ),
-        None => absent_line(alloc, store.len(), id),
+    let len = book.len();
+    match object(book, id) {
+        Some(row) => found_row(alloc, schema, book, &row),
+        None => line_or(absent_line(alloc, len, id)),
+    }
+}
+
+// The line of a row of the graph, with its owner.
+fn found_row<R: Rig>(
+    alloc: Global,
+    schema: &Schema,
+    book: &mut Book<ListGraph, R>,
+    row: &ObjectRow,
+) -> Result<Bytes, LineFault>
+    requires named { HasNames schema.now book.old.rules }
+    requires numbered { IsNumberedObject book.old.rules row.now }
+    requires there { object_at (state_in book.old).graph row.now.id ≡ Some row.now }
+    requires up { book.old.down ≡ false }
+    ensures text { IfOk result (Tells R.Disk.told R.Disk.honest R.Disk.may_leave book.old (λ w. row_found schema.now w row.now.id (Some row.now))) }
+    ensures leaves { LineLeaves R.Disk.told R.Disk.honest R.Disk.may_leave R.Disk.order R.Disk.orders R.Disk.faults book.old book.new result }
+{
+    let len = book.len();
+    let owner = book.owner(row.id);
+    let mut bytes = [0u8; LIMIT];
+    let size = object_payload(book, row, &mut bytes)?;
+    let name = kind_name(schema, row.kind);
+    line_or(found_line(alloc, len, row, name, &bytes[..size], owner))
+}
+
+// Reads the payload of a row of the graph to the front of `bytes`, and gives its size.
+fn object_payload<R: Rig>(
+    book: &mut Book<ListGraph, R>,
+    row: &ObjectRow,
+    bytes: &mut [u8],
+) -> Result<usize, LineFault>
+    requires room { length bytes.old ≡ 512 }
+    requires there { object_at (state_in book.old).graph row.now.id ≡ Some row.now }
+    requires up { book.old.down ≡ false }
+    ensures within { IfOk result (λ n. n ≤ 512) }
+    ensures bytes { IfOk result (λ n. Tells R.Disk.told R.Disk.honest R.Disk.may_leave book.old (λ w. payload_at w.payloads row.now.at) (take n bytes.new)) }
+    ensures leaves { LineLeaves R.Disk.told R.Disk.honest R.Disk.may_leave R.Disk.order R.Disk.orders R.Disk.faults book.old book.new result }
+{
+    match book.read_object(row.id, bytes) {
+        // No row has more.
+        Ok(size) => Ok((size as usize).min(LIMIT)),
+        Err(BookFault::DiskFault { len }) => Err(LineFault::Failed { len }),
+        Err(BookFault::Down { .. }) => unreachable!(),
+    }
+}
+
+fn edge_payload<R: Rig>(
+    book: &mut Book<ListGraph, R>,
+    row: &EdgeRow,
+    bytes: &mut [u8],
+) -> Result<usize, LineFault>
+    requires room { length bytes.old ≡ 512 }
+    requires there { edge_at (state_in book.old).graph row.now.key ≡ Some row.now }
+    requires up { book.old.down ≡ false }
+    ensures within { IfOk result (λ n. n ≤ 512) }
+    ensures bytes { IfOk result (λ n. Tells R.Disk.told R.Disk.honest R.Disk.may_leave book.old (λ w. payload_at w.payloads row.now.birth) (take n bytes.new)) }
+    ensures leaves { LineLeaves R.Disk.told R.Disk.honest R.Disk.may_leave R.Disk.order R.Disk.orders R.Disk.faults book.old book.new result }
+{
+    let key: EdgeKey = row.key;
+    match book.read_edge(key, bytes) {
+        // No row has more.
+        Ok(size) => Ok((size as usize).min(LIMIT)),
+        Err(BookFault::DiskFault { len }) => Err(LineFault::Failed { len }),
+        Err(BookFault::Down { .. }) => unreachable!(),
+    }
+}
+
+// A line, where there was memory for it.
+fn line_or(line: Result<Bytes, AllocError>) -> Result<Bytes, LineFault>
+    ensures ok { IfOk result (λ text. line ≡ Ok text) }
+    ensures err { IfErr result (λ fault. fault ≡ LineFault.OutOfMemory) }
+{
+    match line {
+        Ok(text) => Ok(text),
+        Err(AllocError) => Err(LineFault::OutOfMemory),
     }
 }
 
 /// The lines of the graph: its numbers, the objects by id, the edges by key.
-pub fn show(alloc: Global, schema: &Schema, store: &Store) -> Result<Bytes, AllocError>
-    requires { HasNames schema.now store.now.rules }
-    ensures { IfOk result (λ text. text ≡ graph_lines schema.now store.now) }
+pub(crate) fn graph_shown<R: Rig>(
+    alloc: Global,
+    schema: &Schema,
+    book: &mut Book<ListGraph, R>,
+) -> Result<Bytes, LineFault>
+    requires named { HasNames schema.now book.old.rules }
+    requires up { book.old.down ≡ false }
+    ensures text { IfOk result (Tells R.Disk.told R.Disk.honest R.Disk.may_leave book.old (λ w. graph_lines schema.now w)) }
+    ensures leaves { LineLeaves R.Disk.told R.Disk.honest R.Disk.may_leave R.Disk.order R.Disk.orders R.Disk.faults book.old book.new result }
 {
-    let objects = store.objects(alloc)?;
-    let edges = store.edges(alloc)?;
-    let numbers = graph_line(alloc, objects.len() as u32, edges.len() as u32)?;
-    let rows = object_lines(alloc, schema, store, objects.as_slice())?;
-    let keys = edge_lines(alloc, schema, store, edges.as_slice())?;
-    let objects = joined(alloc, numbers.as_slice(), rows.as_slice())?;
-    joined(alloc, objects.as_slice(), keys.as_slice())
+    let first = rows_counted(alloc, book)?;
+    let rows = object_rows(alloc, schema, book)?;
+    let keys = edge_rows(alloc, schema, book)?;
+    line_or(joined_three(alloc, first.as_slice(), rows.as_slice(), keys.as_slice()))
+}
+
+// The line with the numbers of rows.
+fn rows_counted<R: Rig>(alloc: Global, book: &Book<ListGraph, R>) -> Result<Bytes, LineFault>
+    ensures text { IfOk result (λ text. text ≡ graph_text (length (state_in book.now).graph.objects) (length (state_in book.now).graph.edges)) }
+    ensures err { IfErr result (λ fault. fault ≡ LineFault.OutOfMemory) }
+{
+    let Ok(objects) = objects(alloc, book) else {
+        return Err(LineFault::OutOfMemory);
+    };
+    let Ok(edges) = edges(alloc, book) else {
+        return Err(LineFault::OutOfMemory);
+    };
+    line_or(graph_line(alloc, objects.len() as u32, edges.len() as u32))
 }
 
 /// A text with another one behind it.
-pub fn joined(alloc: Global, first: &[u8], second: &[u8]) -> Result<Bytes, AllocError>
+pub(crate) fn joined(alloc: Global, first: &[u8], second: &[u8]) -> Result<Bytes, AllocError>
     ensures { IfOk result (λ text. text ≡ first.now ++ second.now) }
 {
     let mut text = Vec::from_slice(alloc, first)?;
@@ -52,66 +153,104 @@ pub fn joined(alloc: Global, first: &[u8], second: &[u8]) -> Result<Bytes, Alloc
     Ok(Bytes::from_vec(text))
 }
 
-fn object_lines(
+// Three texts, one behind the other.
+fn joined_three(
+    alloc: Global,
+    first: &[u8],
+    second: &[u8],
+    third: &[u8],
+) -> Result<Bytes, AllocError>
+    ensures { IfOk result (λ text. text ≡ first.now ++ second.now ++ third.now) }
+{
+    let mut text = Vec::from_slice(alloc, first)?;
+    text.extend_from_slice(second)?;
+    text.extend_from_slice(third)?;
+    Ok(Bytes::from_vec(text))
+}
+
+// The lines of all objects.
+fn object_rows<R: Rig>(
     alloc: Global,
     schema: &Schema,
-    store: &Store,
-    rows: &[ObjectRow],
-) -> Result<Bytes, AllocError>
-    requires named { HasNames schema.now store.now.rules }
-    requires numbered { AllByRecursion (IsNumberedObject store.now.rules) rows.now }
-    ensures { IfOk result (λ text. text ≡ flat_map (object_line_of schema.now store.now) rows.now) }
+    book: &mut Book<ListGraph, R>,
+) -> Result<Bytes, LineFault>
+    requires named { HasNames schema.now book.old.rules }
+    requires up { book.old.down ≡ false }
+    ensures text { IfOk result (Tells R.Disk.told R.Disk.honest R.Disk.may_leave book.old (λ w. flat_map (object_line_of schema.now w) (state_in book.old).graph.objects)) }
+    ensures leaves { LineLeaves R.Disk.told R.Disk.honest R.Disk.may_leave R.Disk.order R.Disk.orders R.Disk.faults book.old book.new result }
 {
+    let Ok(rows) = objects(alloc, book) else {
+        return Err(LineFault::OutOfMemory);
+    };
     let mut text = Vec::new(alloc);
-    for row in rows {
-        let line = object_row_line(alloc, schema, store, row)?;
-        text.extend_from_slice(line.as_slice())?;
+    for row in rows.as_slice() {
+        let line = object_row_line(alloc, schema, book, row)?;
+        let Ok(()) = text.extend_from_slice(line.as_slice()) else {
+            return Err(LineFault::OutOfMemory);
+        };
     }
     Ok(Bytes::from_vec(text))
 }
 
-fn object_row_line(
+fn object_row_line<R: Rig>(
     alloc: Global,
     schema: &Schema,
-    store: &Store,
+    book: &mut Book<ListGraph, R>,
     row: &ObjectRow,
-) -> Result<Bytes, AllocError>
-    requires named { HasNames schema.now store.now.rules }
-    requires numbered { IsNumberedObject store.now.rules row.now }
-    ensures { IfOk result (λ text. text ≡ object_line_of schema.now store.now row.now) }
+) -> Result<Bytes, LineFault>
+    requires named { HasNames schema.now book.old.rules }
+    requires numbered { IsNumberedObject book.old.rules row.now }
+    requires there { object_at (state_in book.old).graph row.now.id ≡ Some row.now }
+    requires up { book.old.down ≡ false }
+    ensures text { IfOk result (Tells R.Disk.told R.Disk.honest R.Disk.may_leave book.old (λ w. object_line_of schema.now w row.now)) }
+    ensures leaves { LineLeaves R.Disk.told R.Disk.honest R.Disk.may_leave R.Disk.order R.Disk.orders R.Disk.faults book.old book.new result }
 {
+    let owner = book.owner(row.id);
+    let mut bytes = [0u8; LIMIT];
+    let size = object_payload(book, row, &mut bytes)?;
     let name = kind_name(schema, row.kind);
-    object_line(alloc, row, name, store.given(row.at), store.owner(row.id))
+    line_or(object_line(alloc, row, name, &bytes[..size], owner))
 }
 
-fn edge_lines(
+// The lines of all edges.
+fn edge_rows<R: Rig>(
     alloc: Global,
     schema: &Schema,
-    store: &Store,
-    rows: &[EdgeRow],
-) -> Result<Bytes, AllocError>
-    requires named { HasNames schema.now store.now.rules }
-    requires numbered { AllByRecursion (IsNumberedEdge store.now.rules) rows.now }
-    ensures { IfOk result (λ text. text ≡ flat_map (edge_line_of schema.now store.now) rows.now) }
+    book: &mut Book<ListGraph, R>,
+) -> Result<Bytes, LineFault>
+    requires named { HasNames schema.now book.old.rules }
+    requires up { book.old.down ≡ false }
+    ensures text { IfOk result (Tells R.Disk.told R.Disk.honest R.Disk.may_leave book.old (λ w. flat_map (edge_line_of schema.now w) (state_in book.old).graph.edges)) }
+    ensures leaves { LineLeaves R.Disk.told R.Disk.honest R.Disk.may_leave R.Disk.order R.Disk.orders R.Disk.faults book.old book.new result }
 {
+    let Ok(rows) = edges(alloc, book) else {
+        return Err(LineFault::OutOfMemory);
+    };
     let mut text = Vec::new(alloc);
-    for row in rows {
-        let line = edge_row_line(alloc, schema, store, row)?;
-        text.extend_from_slice(line.as_slice())?;
+    for row in rows.as_slice() {
+        let line = edge_row_line(alloc, schema, book, row)?;
+        let Ok(()) = text.extend_from_slice(line.as_slice()) else {
+            return Err(LineFault::OutOfMemory);
+        };
     }
     Ok(Bytes::from_vec(text))
 }
 
-fn edge_row_line(
+fn edge_row_line<R: Rig>(
     alloc: Global,
     schema: &Schema,
-    store: &Store,
+    book: &mut Book<ListGraph, R>,
     row: &EdgeRow,
-) -> Result<Bytes, AllocError>
-    requires named { HasNames schema.now store.now.rules }
-    requires numbered { IsNumberedEdge store.now.rules row.now }
-    ensures { IfOk result (λ text. text ≡ edge_line_of schema.now store.now row.now) }
+) -> Result<Bytes, LineFault>
+    requires named { HasNames schema.now book.old.rules }
+    requires numbered { IsNumberedEdge book.old.rules row.now }
+    requires there { edge_at (state_in book.old).graph row.now.key ≡ Some row.now }
+    requires up { book.old.down ≡ false }
+    ensures text { IfOk result (Tells R.Disk.told R.Disk.honest R.Disk.may_leave book.old (λ w. edge_line_of schema.now w row.now)) }
+    ensures leaves { LineLeaves R.Disk.told R.Disk.honest R.Disk.may_leave R.Disk.order R.Disk.orders R.Disk.faults book.old book.new result }
 {
+    let mut bytes = [0u8; LIMIT];
+    let size = edge_payload(book, row, &mut bytes)?;
     let name = edge_name(schema, row.key.edge);
-    edge_line(alloc, row, name, store.given(row.birth))
+    line_or(edge_line(alloc, row, name, &bytes[..size]))
 }

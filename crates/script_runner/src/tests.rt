@@ -1,6 +1,7 @@
 //! That a run with ample memory ends by its causes alone, and prints what it is to print.
 
 use crate::{Status, run_plain};
+use delf_disk::{Bytes as DiskBytes, MemDisk, Numbers as DiskNumbers};
 use delf_io::{Bytes, ListClock, MemSink, MemSource, Numbers};
 use std::alloc::{AllocError, Global};
 use std::process::Abort;
@@ -10,7 +11,7 @@ use std::test::Fail;
 const PHOTOS: &str =
     "schema 1\nwindow 100\nobject user directly\nobject photo by_any\nobject album directly\nobject session short_ttl 60\nedge owns user photo deep\nedge likes user photo shallow\nedge holds album photo refcount\nedge uses user session deep\nscript\n";
 
-fn run_words(
+pub fn run_words(
     alloc: Global,
     words: &[&str],
     document: &[&str],
@@ -29,7 +30,20 @@ fn run_words(
     let mut source = MemSource::of(bytes, Numbers::of(alloc, read_fails)?);
     let mut sink = MemSink::of(alloc, Numbers::of(alloc, write_fails)?);
     let mut clock = ListClock::of(Numbers::of(alloc, &[1000])?);
-    let status = run_plain(alloc, owned.as_slice(), &mut source, &mut sink, &mut clock);
+    let rig = MemDisk::of(
+        alloc,
+        DiskBytes::of(alloc, &[])?,
+        DiskBytes::of(alloc, &[])?,
+        DiskNumbers::of(alloc, &[])?,
+    )?;
+    let (status, _rig) = run_plain(
+        alloc,
+        owned.as_slice(),
+        &mut source,
+        &mut sink,
+        rig,
+        &mut clock,
+    );
     Ok((status, sink))
 }
 
@@ -185,30 +199,45 @@ fn what_is_live_is_told(rt: HostRuntime) -> Result<(), Fail> {
     )
 }
 
+// That these words run the document from the moment 5 or 1000 on.
+fn starts(rt: &impl Abort, alloc: Global, words: &[&str]) -> Result<(), Fail> {
+    let script = "create 7 session\nwork 1\ntick 60\nwork 1\ndelete 7 job 1\n";
+    let (status, sink) = run_words(alloc, words, &[PHOTOS, script], &[], &[])?;
+    assert_eq!(rt; status, Status::Done);
+    assert_eq!(rt;
+        sink.held(),
+        b"0 created 7\nwork 0 idle\nwork 1\nrefused 4 at 2 condemned 7 by 1\n".as_slice()
+    );
+    Ok(())
+}
+
+// That these words are no command.
+fn is_usage(rt: &impl Abort, alloc: Global, words: &[&str]) -> Result<(), Fail> {
+    let (status, sink) = run_words(alloc, words, &[PHOTOS], &[], &[])?;
+    assert_eq!(rt; status, Status::Usage);
+    assert_eq!(rt;
+        sink.held(),
+        b"usage: delf run [--at N] | check | load N\n".as_slice()
+    );
+    Ok(())
+}
+
 #[test]
 fn the_words_give_the_start(rt: HostRuntime) -> Result<(), Fail> {
-    let document = [
-        PHOTOS,
-        "create 7 session\nwork 1\ntick 60\nwork 1\ndelete 7 job 1\n",
-    ];
-    let text = b"0 created 7\nwork 0 idle\nwork 1\nrefused 4 at 2 condemned 7 by 1\n";
-    for words in [["run", "--at=5"].as_slice(), ["run"].as_slice()] {
-        let (status, sink) = run_words(rt.alloc(), words, &document, &[], &[])?;
-        assert_eq!(rt; status, Status::Done);
-        assert_eq!(rt; sink.held(), text.as_slice());
-    }
-    for words in [
-        ["run", "--at", "05"].as_slice(),
-        ["run", "--at="].as_slice(),
-        ["walk"].as_slice(),
-    ] {
-        let (status, sink) = run_words(rt.alloc(), words, &document, &[], &[])?;
-        assert_eq!(rt; status, Status::Usage);
-        assert_eq!(rt;
-            sink.held(),
-            b"usage: delf run [--at N] | check | load N\n".as_slice()
-        );
-    }
+    let alloc = rt.alloc();
+    starts(&rt, alloc, &["run", "--at=5"])?;
+    starts(&rt, alloc, &["run"])?;
+    is_usage(&rt, alloc, &["run", "--at", "05"])?;
+    is_usage(&rt, alloc, &["run", "--at="])?;
+    is_usage(&rt, alloc, &["walk"])?;
+    is_usage(&rt, alloc, &["--help"])?;
+    is_usage(&rt, alloc, &[])?;
+    is_usage(&rt, alloc, &["check", "it"])?;
+    is_usage(&rt, alloc, &["load"])?;
+    is_usage(&rt, alloc, &["load", "7"])?;
+    is_usage(&rt, alloc, &["load", "08"])?;
+    is_usage(&rt, alloc, &["load", "20001"])?;
+    is_usage(&rt, alloc, &["run", "--at"])?;
     Ok(())
 }
 
@@ -278,13 +307,6 @@ fn the_first_fault_is_told(rt: HostRuntime) -> Result<(), Fail> {
         "schema 1\nwindow 0\nobject a directly\nscript\npar workers 1 turns 1\nlane\nend\n",
         5,
         "line 5: malformed\n",
-    )?;
-    refuses(
-        &rt,
-        alloc,
-        "schema 1\nwindow 0\nobject a directly\nscript\ncreate 1 a\nfail 1\n",
-        0,
-        "line 0: not served\n",
     )
 }
 
@@ -298,4 +320,83 @@ fn faults_of_the_outside_end_a_run(rt: HostRuntime) -> Result<(), Fail> {
     assert_eq!(rt; status, Status::WriteFault { done: 1 });
     assert_eq!(rt; sink.held(), b"0 created 7\n".as_slice());
     Ok(())
+}
+
+// That the script under the schema ends with this status, and prints this text.
+fn ends(
+    rt: &impl Abort,
+    alloc: Global,
+    script: &str,
+    status: Status,
+    text: &str,
+) -> Result<(), Fail> {
+    let (ended, sink) = run_words(alloc, &["run", "--at", "0"], &[PHOTOS, script], &[], &[])?;
+    assert_eq!(rt; ended, status);
+    assert_eq!(rt; sink.held(), text.as_bytes());
+    Ok(())
+}
+
+#[test]
+fn a_torn_gate_is_closed_or_open(rt: HostRuntime) -> Result<(), Fail> {
+    let down = "fail 3\ncreate 1 user \"a\"\ncreate 2 photo\n";
+    ends(
+        &rt,
+        rt.alloc(),
+        down,
+        Status::Down { len: 0 },
+        "down at 0\nrefused 1 at 0 down\n",
+    )?;
+    for (pick, opened) in [("0", "0"), ("1", "1"), ("2", "0"), ("3", "0")] {
+        let mut script = String::from_str(rt.alloc(), down)?;
+        script.push_str("crash ")?;
+        script.push_str(pick)?;
+        script.push_str("\n")?;
+        let mut text = String::from_str(rt.alloc(), "down at 0\nrefused 1 at 0 down\nopened ")?;
+        text.push_str(opened)?;
+        text.push_str("\n")?;
+        ends(
+            &rt,
+            rt.alloc(),
+            script.as_str(),
+            Status::Done,
+            text.as_str(),
+        )?;
+    }
+    Ok(())
+}
+
+#[test]
+fn a_step_that_was_stopped_is_made_again(rt: HostRuntime) -> Result<(), Fail> {
+    ends(
+        &rt,
+        rt.alloc(),
+        "create 1 user \"a\"\ncreate 2 photo \"b\"\nlink owns 1 2\ndelete 1 job 40\nfail 5\nwork 10\nget 1\nshow\nwork 2\nreport\njobs\ncrash 0\nwork 10\njob 40\ncrash 7\nreport\n",
+        Status::Done,
+        "0 created 1\n1 created 2\n2 linked owns 1 2\n3 deleting 1 job 40\nwork 0 down at 4\nrefused 1 at 4 down\nrefused 1 at 4 down\nrefused 1 at 4 down\nrefused 1 at 4 down\njobs 1\njob 40 start 3 root 1 pending 1\nopened 4\nwork 3 idle\njob 40 start 3 root 1 done erased 2 cut 1\nopened 7\n{\"edges\":0,\"history\":7,\"jobs\":[{\"cut\":1,\"erased\":2,\"name\":\"40\",\"root\":1,\"start\":3,\"state\":\"done\"}],\"objects\":0}\n",
+    )
+}
+
+#[test]
+fn a_fault_in_a_read_or_at_the_end_takes_the_store_down(rt: HostRuntime) -> Result<(), Fail> {
+    ends(
+        &rt,
+        rt.alloc(),
+        "create 1 user\nget 1\n",
+        Status::Done,
+        "0 created 1\nat 1 object 1 user birth 0 \"\"\n",
+    )?;
+    ends(
+        &rt,
+        rt.alloc(),
+        "create 1 user \"a\"\nfail 1\nget 1\nget 1\n",
+        Status::Down { len: 1 },
+        "0 created 1\ndown at 1\nrefused 1 at 1 down\n",
+    )?;
+    ends(
+        &rt,
+        rt.alloc(),
+        "create 1 user \"a\"\nfail 1\n",
+        Status::Down { len: 1 },
+        "0 created 1\ndown at 1\n",
+    )
 }

@@ -84,6 +84,14 @@ impl Vault {
         })
     }
 
+    /// The vault over a log of the vault area that stands.
+    pub fn over(log: GateLog) -> Vault
+        requires { log.area ≡ VaultArea }
+        ensures { result ≡ log }
+    {
+        Vault { log }
+    }
+
     /// Adds a record with this head and payload: all but its gate, a sync, its gate, a sync. It takes no memory.
     pub fn append<D: Disk>(
         &mut self,

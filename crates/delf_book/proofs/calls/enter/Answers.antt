@@ -1,4 +1,4 @@
-use Rattle.std.proofs.Common.{◌≡◌, ℕ, ◌+◌, ◌≤◌, List, length, vec_capacity, sym, ◌∙◌, subst, arith}
+use Rattle.std.proofs.Common.{◌≡◌, ℕ, ◌+◌, List, length, vec_capacity, sym, subst, arith}
 use Rattle.delf_model.specs.declared.entry.Entry.{Entry}
 use Rattle.delf_model.specs.RuleSet.{RuleSet}
 use Rattle.delf_disk.proofs.Flags.{was_plain}
@@ -45,7 +45,6 @@ returns-clause-durable g c = λ plain.
 
 pub returns-clause-up : goal.returns-clause-up
 returns-clause-up g c = record {
-  few = subst (λ (r : RuleSet). length r.edges ≤ 64) (sym (c.in_ok-add.ensures.ok.rules ∙ c.make_ready.ensures.ledger.rules)) c.requires.up.few;
   logs = c.in_ok-add.ensures.logs;
   carried = c.in_ok-add.ensures.carriers;
   room =

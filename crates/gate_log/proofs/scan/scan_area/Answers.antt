@@ -13,7 +13,7 @@ gates-preserved g c =
     let a = c.args in
     let s = c.gates.invariant in
     let lengths = c.in-Some.lengths in
-    let within = rw c.in-Some.is at c.in_ok-lengths.ensures.within in
+    let within = rw c.in-Some.is at c.in-Ok.ensures.within in
     let sum : c.gates.at + (7 + c.from.result + c.from-in-gates.result) ≡ c.gates.at + (7 + lengths.head + lengths.payload) = omega (arith, c.from.ensures, c.from-in-gates.ensures) in
     let tied = tied_pushed _ _ _ c.gates.at _ c.in_ok-push.ensures.items refl sum s.tied in
     record {
@@ -21,13 +21,13 @@ gates-preserved g c =
       tied = tied;
       count = omega (arith, c.in_ok-push.ensures.len, c.len.ensures, c.if-len-ge-MOST_RECORDS.false);
       kind = same_kinds s.kind c.look.ensures.kind;
-      faults = c.in_ok-lengths.ensures.cause ∙ s.faults;
+      faults = c.in-Ok.ensures.cause ∙ s.faults;
       seen = λ plain. c.look.ensures.seen (stays_plain s.kind plain) ∙ s.seen plain;
       moments = λ plain. same_on (s.moments plain) (c.look.ensures.any_moment (stays_plain s.kind plain));
       read = λ plain.
           let bytes = area_of a.area (g.D.Disk.seen a.disk.now) in
           let eight : length (take 8 (area_of a.area (g.D.Disk.seen a.disk.now))) ≡ 8 = omega (arith, length-take 8 (area_of a.area (g.D.Disk.seen a.disk.now)), c.requires.len plain, c.requires.longer) in
-          let looked = rw c.in-Some.is at c.in_ok-lengths.ensures.looked (stays_plain s.kind plain) in
+          let looked = rw c.in-Some.is at c.in-Ok.ensures.looked (stays_plain s.kind plain) in
           let opened = subst (λ (x : Areas). OpenAt c.gates.at lengths (area_of a.area x)) (s.seen plain) looked in
           more_read (take 8 bytes) bytes eight _ _ _ c.gates.at _ lengths c.in_ok-push.ensures.items refl tied (s.read plain) opened;
     }

@@ -2,6 +2,7 @@ use Rattle.std.proofs.Common.{arith}
 use Rattle.schema_lang.specs.Views.{part_view}
 use Rattle.script_runner.specs.Documents.{HasPart}
 use Rattle.script_runner.proofs.Documents.{told_part, told_check, told_script}
+use Rattle.script_runner.proofs.Unblocked.{unblocked}
 use Rattle.script_runner.proofs.document.read_document.Goals as goal
 
 pub returns-in-Err-clause-fault : goal.returns-in-Err-clause-fault
@@ -17,3 +18,6 @@ pub returns-in-Err-parse_script-clause-fault : goal.returns-in-Err-parse_script-
 returns-in-Err-parse_script-clause-fault c =
     let has : HasPart c.args.bytes.now (part_view c.in-Ok.part) = record { size = omega arith; spelled = c.in-Ok.ensures.part } in
     told_script c.args.bytes.now (part_view c.in-Ok.part) c.in-Err-parse_script.fault has c.in-Ok-judge.ensures.checked c.in-Err-parse_script.ensures.script
+
+pub returns-in-Ok-parse_script-clause-lanes : goal.returns-in-Ok-parse_script-clause-lanes
+returns-in-Ok-parse_script-clause-lanes c = unblocked _ _ _ c.in-Ok-parse_script.commands c.in-Ok-parse_script.ensures.script

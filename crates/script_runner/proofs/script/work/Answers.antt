@@ -1,31 +1,20 @@
-use Rattle.std.proofs.Common.{arith}
+use Rattle.std.proofs.Common.{sym, ◌∙◌}
 use Rattle.std.proofs.lemmas.Result.{IfOk-weaker}
-use Rattle.script_runner.proofs.Works.{on_ok, left_more, made_more, idle_worked, idle_line, all_worked, all_line}
+use Rattle.script_runner.specs.Worlds.{world_of}
+use Rattle.script_runner.proofs.Calls.{on_err}
+use Rattle.script_runner.proofs.Steps.{work_carried, work_halts, down_halts}
 use Rattle.script_runner.proofs.script.work.Goals as goal
 
-pub returns-then-is_none-clause-line : goal.returns-then-is_none-clause-line
-returns-then-is_none-clause-line c =
-    IfOk-weaker c.work_line.result _ _ (λ text said. idle_line c.args.n c.loop-made.made c.args.store.now c.loop-made.store c.in_ok-step.field-0 text
-    (omega arith) c.loop-made.invariant.left c.loop-made.invariant.made c.in_ok-step.ensures.step c.if-is_none.ensures said) c.work_line.ensures
+pub returns-then-is_down-clause-halts : goal.returns-then-is_down-clause-halts
+returns-then-is_down-clause-halts g c = on_err c.down_refused.result (λ plain e stands.
+    down_halts g.R.Disk.may_leave c.args.n c.args.book.now c.args.clock e c.len-len.ensures.legal stands)
 
-pub returns-then-is_none-clause-worked : goal.returns-then-is_none-clause-worked
-returns-then-is_none-clause-worked c =
-    on_ok c.work_line.result (idle_worked c.args.n c.loop-made.made c.args.store.now c.loop-made.store c.step.new.self c.in_ok-step.field-0
-    c.loop-made.invariant.left c.in_ok-step.ensures.step c.if-is_none.ensures c.in_ok-step.ensures.next)
+pub returns-clause-serves : goal.returns-clause-serves
+returns-clause-serves g c = IfOk-weaker c.work_line.result _ _ (λ text said plain schema e stands.
+    work_carried g.R.Disk.may_leave g.R.Disk.faults schema c.args.n (world_of c.args.book.now c.args.clock e) (g.R.Disk.faults c.args.book.now.rig) c.make_steps.new.book
+    c.args.clock c.in_ok-made.made c.in_ok-made.end text (sym c.is_down.ensures ∙ c.if-is_down.false) (c.in_ok-made.ensures.steps plain e stands) said) c.work_line.ensures
 
-pub loop-made-preserved : goal.loop-made-preserved
-loop-made-preserved c =
-    record {
-      left = left_more c.args.n c.loop-made.made c.args.store.now c.loop-made.store c.step.new.self c.in_ok-step.field-0 (omega arith)
-          c.loop-made.invariant.left c.in_ok-step.ensures.step c.in_ok-step.ensures.next;
-      made = made_more c.loop-made.made c.args.store.now c.loop-made.store c.step.new.self c.in_ok-step.field-0 c.loop-made.invariant.made c.if-is_none.ensures
-          c.in_ok-step.ensures.next;
-    }
-
-pub returns-clause-line : goal.returns-clause-line
-returns-clause-line c = IfOk-weaker c.work_line-2.result _ _ (λ text said. all_line c.args.n c.loop-made.made c.args.store.now c.loop-made.store text
-    (omega arith) c.loop-made.invariant.left c.loop-made.invariant.made said) c.work_line-2.ensures
-
-pub returns-clause-worked : goal.returns-clause-worked
-returns-clause-worked c =
-    on_ok c.work_line-2.result (all_worked c.args.n c.loop-made.made c.args.store.now c.loop-made.store (omega arith) c.loop-made.invariant.left)
+pub returns-clause-halts : goal.returns-clause-halts
+returns-clause-halts g c = on_err c.work_line.result (λ plain e stands.
+    work_halts g.R.Disk.may_leave g.R.Disk.faults c.args.n (world_of c.args.book.now c.args.clock e) (g.R.Disk.faults c.args.book.now.rig) c.make_steps.new.book
+    c.args.clock c.in_ok-made.made c.in_ok-made.end c.in_ok-made.ensures.made c.len-after.ensures.legal (c.in_ok-made.ensures.steps plain e stands))

@@ -12,8 +12,16 @@ enter-requires-clause-bounded g c =
     let m_is : c.moment_at-moment.result ≡ moment_of (state_in view) c.args.now =
     c.moment_at-moment.ensures ∙ ap (λ (k : ℕ). max k (min c.args.now greatest_moment)) c.moment.ensures.value in
     let objects : length c.self.inside.ledger.rules.objects ≤ 64 = subst (λ (r : RuleSet). length r.objects ≤ 64) c.rules.ensures (omega (arith, c.objects_len-kinds.ensures.value, c.objects_len-kinds.ensures.below)) in
-    let entry = entry_here view c.args.self.now c.self.view_is c.args.now c.args.seat c.args.call.now c.moment_at-moment.result m_is c.in_ok-what.what c.in_ok-what.ensures.reply objects
-    (c.self.invariant c.if-self.false).few c.requires.numbers in
+    let entry = entry_here view c.args.self.now c.self.view_is c.args.now c.args.seat c.args.call.now c.moment_at-moment.result m_is c.in_ok-what.what c.in_ok-what.ensures.reply objects c.requires.numbers in
+    entry.bounded
+
+pub of-requires-clause-bounded : goal.of-requires-clause-bounded
+of-requires-clause-bounded g c =
+    let view : Booked g.row.G.Denot g.row.R.Denot = (record { rules = c.self.inside.ledger.rules; history = c.self.inside.ledger.history; store = c.self.inside.ledger.store; spare = c.self.inside.spare; down = c.self.inside.down; beside = c.self.inside.beside; rig = c.self.inside.rig }) in
+    let m_is : c.moment_at-moment.result ≡ moment_of (state_in view) c.args.now =
+    c.moment_at-moment.ensures ∙ ap (λ (k : ℕ). max k (min c.args.now greatest_moment)) c.moment.ensures.value in
+    let objects : length c.self.inside.ledger.rules.objects ≤ 64 = subst (λ (r : RuleSet). length r.objects ≤ 64) c.rules.ensures (omega (arith, c.objects_len-kinds.ensures.value, c.objects_len-kinds.ensures.below)) in
+    let entry = entry_here view c.args.self.now c.self.view_is c.args.now c.args.seat c.args.call.now c.moment_at-moment.result m_is c.in_ok-what.what c.in_ok-what.ensures.reply objects c.requires.numbers in
     entry.bounded
 
 pub enter-requires-clause-size : goal.enter-requires-clause-size
@@ -22,8 +30,7 @@ enter-requires-clause-size g c =
     let m_is : c.moment_at-moment.result ≡ moment_of (state_in view) c.args.now =
     c.moment_at-moment.ensures ∙ ap (λ (k : ℕ). max k (min c.args.now greatest_moment)) c.moment.ensures.value in
     let objects : length c.self.inside.ledger.rules.objects ≤ 64 = subst (λ (r : RuleSet). length r.objects ≤ 64) c.rules.ensures (omega (arith, c.objects_len-kinds.ensures.value, c.objects_len-kinds.ensures.below)) in
-    let entry = entry_here view c.args.self.now c.self.view_is c.args.now c.args.seat c.args.call.now c.moment_at-moment.result m_is c.in_ok-what.what c.in_ok-what.ensures.reply objects
-    (c.self.invariant c.if-self.false).few c.requires.numbers in
+    let entry = entry_here view c.args.self.now c.self.view_is c.args.now c.args.seat c.args.call.now c.moment_at-moment.result m_is c.in_ok-what.what c.in_ok-what.ensures.reply objects c.requires.numbers in
     ap length c.payload_of-payload.ensures ∙ entry.size
 
 pub enter-requires-clause-no_item : goal.enter-requires-clause-no_item
@@ -32,8 +39,7 @@ enter-requires-clause-no_item g c =
     let m_is : c.moment_at-moment.result ≡ moment_of (state_in view) c.args.now =
     c.moment_at-moment.ensures ∙ ap (λ (k : ℕ). max k (min c.args.now greatest_moment)) c.moment.ensures.value in
     let objects : length c.self.inside.ledger.rules.objects ≤ 64 = subst (λ (r : RuleSet). length r.objects ≤ 64) c.rules.ensures (omega (arith, c.objects_len-kinds.ensures.value, c.objects_len-kinds.ensures.below)) in
-    let entry = entry_here view c.args.self.now c.self.view_is c.args.now c.args.seat c.args.call.now c.moment_at-moment.result m_is c.in_ok-what.what c.in_ok-what.ensures.reply objects
-    (c.self.invariant c.if-self.false).few c.requires.numbers in
+    let entry = entry_here view c.args.self.now c.self.view_is c.args.now c.args.seat c.args.call.now c.moment_at-moment.result m_is c.in_ok-what.what c.in_ok-what.ensures.reply objects c.requires.numbers in
     entry.no_item
 
 pub enter-requires-clause-rows : goal.enter-requires-clause-rows
@@ -42,8 +48,7 @@ enter-requires-clause-rows g c =
     let m_is : c.moment_at-moment.result ≡ moment_of (state_in view) c.args.now =
     c.moment_at-moment.ensures ∙ ap (λ (k : ℕ). max k (min c.args.now greatest_moment)) c.moment.ensures.value in
     let objects : length c.self.inside.ledger.rules.objects ≤ 64 = subst (λ (r : RuleSet). length r.objects ≤ 64) c.rules.ensures (omega (arith, c.objects_len-kinds.ensures.value, c.objects_len-kinds.ensures.below)) in
-    let entry = entry_here view c.args.self.now c.self.view_is c.args.now c.args.seat c.args.call.now c.moment_at-moment.result m_is c.in_ok-what.what c.in_ok-what.ensures.reply objects
-    (c.self.invariant c.if-self.false).few c.requires.numbers in
+    let entry = entry_here view c.args.self.now c.self.view_is c.args.now c.args.seat c.args.call.now c.moment_at-moment.result m_is c.in_ok-what.what c.in_ok-what.ensures.reply objects c.requires.numbers in
     entry.rows
 
 pub returns-in-Ok-clause-crash : goal.returns-in-Ok-clause-crash

@@ -61,7 +61,6 @@ invariant_of-self g c = λ up.
     r.journal_area r.journal_sizes r.vault_area r.vault_sizes r.items
     (room_lists c.self.inside.spare l.spare old.journal old.vault new.journal new.vault old.carriers.items new.carriers.items (vec_capacity old.carriers) (vec_capacity new.carriers) r.journal_spare r.vault_spare r.items r.capacity) (c.self.invariant c.if-self.false) in
     record {
-      few = base.few;
       logs = base.logs;
       carried = base.carried;
       room = base.room;

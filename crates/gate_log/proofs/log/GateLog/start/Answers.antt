@@ -1,31 +1,14 @@
 -- A blank area gets its first gate.
-use Rattle.std.proofs.Common.{◌≡◌, ℕ, List, [], ◌∷◌, ◌++◌, length, refl, sym, ◌∙◌, ap, subst, arith}
-use Rattle.std.proofs.lemmas.List.{append-nil}
+use Rattle.std.proofs.Common.{◌≡◌, [], ◌∷◌, ◌++◌, refl, sym, ◌∙◌, ap, subst, arith}
 use Rattle.std.proofs.lemmas.Result.{err_from_is_err_and}
 use Rattle.delf_disk.specs.Areas.{Areas, area_of, rest_of}
 use Rattle.delf_disk.specs.Images.{Same}
 use Rattle.delf_disk.proofs.Flags.{stays_plain}
 use Rattle.delf_disk.proofs.Moments.{started, kept, same_then}
 use Rattle.delf_disk.proofs.Writes.{torn_same}
-use Rattle.gate_log.specs.declared.scan.Place.{Place}
-use Rattle.gate_log.specs.Logs.{Log}
-use Rattle.gate_log.specs.Places.{sizes_at}
 use Rattle.gate_log.specs.Opening.{IsBroken}
+use Rattle.gate_log.proofs.Fronts.{empty_log, no_sizes}
 use Rattle.gate_log.proofs.log.GateLog.start.Goals as goal
-
--- a mark and a closed gate
-empty_log : (mark bytes : List ℕ) → length mark ≡ 8 → bytes ≡ mark ++ 0 ∷ [] → Log mark [] bytes
-empty_log mark bytes eight is = record {
-  eight = eight;
-  bounded = tt;
-  gate = 0;
-  closed = omega arith;
-  tail = [];
-  split = is ∙ ap (λ (l : List ℕ). l ++ 0 ∷ []) (sym (append-nil mark));
-}
-
-no_sizes : (sizes : List (ℕ × ℕ)) (places : List Place) → sizes ≡ sizes_at places → places ≡ [] → sizes ≡ []
-no_sizes sizes places is none = is ∙ ap (λ (l : List Place). sizes_at l) none
 
 pub returns-in_err-begin-clause-any_moment_blank : goal.returns-in_err-begin-clause-any_moment_blank
 returns-in_err-begin-clause-any_moment_blank g c = λ plain blank.

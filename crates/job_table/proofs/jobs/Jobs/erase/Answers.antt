@@ -1,14 +1,34 @@
-use Rattle.std.proofs.Common.{Bool, cond, Some, sym, refl, ap}
+use Rattle.std.proofs.Common.{◌≡◌, ◌∙◌, Bool, cond, Some, sym, refl, ap, arith}
+use Rattle.std.specs.Prelude.{nat_eq}
+use Rattle.job_table.specs.declared.jobs.Row.{Row}
+use Rattle.job_table.specs.Table.{owner_among}
+use Rattle.job_table.specs.Waits.{waits_of, erased_row}
 use Rattle.delf_model.specs.State.{erased_at}
 use Rattle.job_table.specs.Parts.{row_of}
 use Rattle.job_table.proofs.Naming.{changed_fits}
 use Rattle.job_table.proofs.Places.{change_some, change_none}
+use Rattle.job_table.proofs.WaitingJobs.{waits_at, changed_waits, still_purged, same_row}
 use Rattle.job_table.proofs.jobs.Jobs.erase.Goals as goal
 
 pub invariant_of-self : goal.invariant_of-self
-invariant_of-self c =
-    changed_fits c.self.inside.rows.items _ _ _ _ _ _ _ c.self.invariant c.deref.result.now c.args.job c.in-Some.i c.self.inside.restored c.index_mut.result.now (record c.index_mut.result.now { last = Some c.args.moment })
-    c.deref.ensures.value c.in-Some.ensures c.index_mut.ensures.value refl refl refl
+invariant_of-self c = (
+  changed_fits c.self.inside.rows.items _ _ _ _ _ _ c.self.invariant.0 c.deref.result.now c.args.job c.in-Some.i c.index_mut.result.now (record c.index_mut.result.now { last = Some c.args.moment })
+      c.deref.ensures.value c.in-Some.ensures c.index_mut.ensures.value refl refl,
+  changed_waits c.self.inside.rows.items c.self.inside.waiting.items _ _ _ c.self.invariant.1 c.deref.result.now c.wait_anew.new.waiting.items _ c.self.inside.front c.args.job c.in-Some.i
+      (record c.index_mut.result.now { last = Some c.args.moment }) c.index.result.now c.deref.ensures.value c.in-Some.ensures c.index.ensures (ap (λ (r : Row). r.start) (sym (same c)))
+      c.wait_anew.ensures.rise c.wait_anew.ensures.apart
+      (λ q. c.wait_anew.ensures.value q ∙ ap (λ (r : Row). cond (nat_eq q c.index.result.now.start) (waits_of (erased_row c.args.moment r)) (owner_among c.self.inside.waiting.items q)) (same c))
+      (omega (arith, c.wait_anew.ensures.len)) c.wait_anew.ensures.capacity c.self.invariant.1.within
+      (still_purged c.self.inside.rows.items c.self.inside.waiting.items _ _ _ c.self.invariant.1 c.in-Some.i (record c.index_mut.result.now { last = Some c.args.moment }) c.index.result.now c.index.ensures
+      (λ h. ap (λ (r : Row). r.purged) (sym (same c)) ∙ h)),
+)
+  where
+    same : (c : goal.After-self-1) → c.index.result.now ≡ c.index_mut.result.now
+    same c = same_row c.self.inside.rows.items c.deref.result.now c.args.job c.in-Some.i c.index.result.now c.index_mut.result.now c.deref.ensures.value c.in-Some.ensures c.index.ensures c.index_mut.ensures.value
+
+pub wait_anew-requires-clause-found : goal.wait_anew-requires-clause-found
+wait_anew-requires-clause-found c =
+    waits_at c.self.inside.rows.items c.self.inside.waiting.items _ _ _ c.self.invariant.1 c.deref.result.now c.args.job c.in-Some.i c.index.result.now c.deref.ensures.value c.in-Some.ensures c.index.ensures
 
 pub returns-in-Some-clause-list : goal.returns-in-Some-clause-list
 returns-in-Some-clause-list c =

@@ -1,24 +1,19 @@
-use Rattle.std.proofs.Common.{◌∙◌, ap, sym, get_or}
-use Rattle.std.specs.List.{position}
+use Rattle.std.proofs.Common.{◌≡◌, ◌∙◌, ap, sym}
+use Rattle.delf_model.specs.Order.{put_of, last_place}
+use Rattle.job_table.specs.Items.{is_unhandled_of}
 use Rattle.job_table.specs.Table.{Table}
-use Rattle.job_table.specs.Serial.{is_oldest_in}
-use Rattle.std.specs.Prelude.{count_by}
-use Rattle.job_table.specs.Parts.{has_restore}
-use Rattle.job_table.proofs.Naming.{none_restored}
-use Rattle.job_table.proofs.Firsts.{put_found, put_missing}
+use Rattle.job_table.proofs.Oldest.{put_at_front, none_at_front}
 use Rattle.job_table.proofs.table.JobTable.first_put.Goals as goal
 
 pub returns-in-Some : goal.returns-in-Some
 returns-in-Some c =
-    λ s h. c.put_of.ensures
-    ∙ put_found s c.args.self.now c.rows-rows.result.now h (c.rows-rows.ensures ∙ ap (λ (t : Table). t.jobs) c.self.view_is) c.in-Some.i (get_or c.rows-rows.result.now c.in-Some.i c.index-rows-i.result)
-    (c.in-Some.ensures ∙ ap (λ (t : Table). position (is_oldest_in c.rows-rows.result.now t.items) c.rows-rows.result.now) c.self.view_is) (ap (get_or c.rows-rows.result.now c.in-Some.i) c.index-rows-i.is)
+    λ s h. let jobs : c.self.inside.jobs.list ≡ s.jobs = ap (λ (t : Table). t.jobs) c.self.view_is ∙ h.jobs in
+    let items : c.self.inside.items.list ≡ s.items = ap (λ (t : Table). t.items) c.self.view_is ∙ h.items in
+    c.put_of.ensures ∙ ap (λ (t : Table). put_of c.in-Some.pair.0 (last_place (is_unhandled_of c.in-Some.pair.0) 0 t.items)) (sym c.self.view_is)
+    ∙ put_at_front s c.self.inside.restoring.list c.self.inside.jobs.list c.self.inside.items.list c.in-Some.pair h.keeps jobs items c.self.invariant.1 c.in-Some.ensures.rise c.in-Some.ensures.value
 
 pub returns-in-None : goal.returns-in-None
 returns-in-None c =
-    λ s h. put_missing s c.args.self.now c.rows-rows.result.now h (c.rows-rows.ensures ∙ ap (λ (t : Table). t.jobs) c.self.view_is)
-    (c.in-None.ensures ∙ ap (λ (t : Table). position (is_oldest_in c.rows-rows.result.now t.items) c.rows-rows.result.now) c.self.view_is)
-
-pub returns-then-restored-eq0 : goal.returns-then-restored-eq0
-returns-then-restored-eq0 c =
-    λ s h. none_restored s c.args.self.now.jobs h.jobs (ap (λ (t : Table). count_by has_restore t.jobs) (sym c.self.view_is) ∙ sym c.restored.ensures ∙ c.if-restored-eq0.true)
+    λ s h. let jobs : c.self.inside.jobs.list ≡ s.jobs = ap (λ (t : Table). t.jobs) c.self.view_is ∙ h.jobs in
+    let items : c.self.inside.items.list ≡ s.items = ap (λ (t : Table). t.items) c.self.view_is ∙ h.items in
+    none_at_front s c.self.inside.restoring.list c.self.inside.jobs.list c.self.inside.items.list h.keeps jobs items c.self.invariant.1 c.in-None.ensures.value

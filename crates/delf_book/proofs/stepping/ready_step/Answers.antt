@@ -1,0 +1,4 @@
+use Rattle.delf_book.proofs.stepping.ready_step.Goals as goal
+
+pub returns-in_err-make_ready-clause-keeps : goal.returns-in_err-make_ready-clause-keeps
+returns-in_err-make_ready-clause-keeps g c = c.make_ready.ensures.kept c.args.spare c.requires.room

@@ -1,0 +1,669 @@
+//! The layers under the book over lists: worked examples with every position, refusal, step and status.
+
+ghost use Rattle.std.specs.Prelude.{◌<◌};
+
+use crate::drive::{Answer, Order, answer_to, id};
+use crate::ledger::Ledger;
+use delf_model::{
+    Cause, EdgeNo, EdgeRule, EdgeType, Job, JobLine, JobName, List, Moment, Name, ObjectId,
+    ObjectRule, ObjectType, Refusal, Rules, Schema, Status, TypeNo, What, is_spellable,
+};
+use live_graph::ListGraph;
+use std::alloc::Global;
+use std::process::Abort;
+use std::test::Fail;
+
+const USER: u8 = 0;
+
+const PHOTO: u8 = 1;
+
+const ALBUM: u8 = 2;
+
+const SESSION: u8 = 3;
+
+const OWNS: u8 = 0;
+
+const LIKES: u8 = 1;
+
+const HOLDS: u8 = 2;
+
+const PAGE: u8 = 0;
+
+const REFS: u8 = 0;
+
+fn object(alloc: Global, name: &[u8], rule: ObjectRule) -> Result<ObjectType, Fail> {
+    Ok(ObjectType {
+        name: Name::of(alloc, name)?,
+        rule,
+        line: 0,
+    })
+}
+
+fn edge(
+    alloc: Global,
+    name: &[u8],
+    from: &[u8],
+    to: &[u8],
+    rule: EdgeRule,
+) -> Result<EdgeType, Fail> {
+    Ok(EdgeType {
+        name: Name::of(alloc, name)?,
+        from: Name::of(alloc, from)?,
+        to: Name::of(alloc, to)?,
+        rule,
+        line: 0,
+    })
+}
+
+// Users own photos and sessions, and like photos; albums hold photos.
+fn photos(alloc: Global) -> Result<Schema, Fail> {
+    let mut objects = List::new(alloc);
+    objects.push(object(alloc, b"user", ObjectRule::Directly)?)?;
+    objects.push(object(alloc, b"photo", ObjectRule::ByAny)?)?;
+    objects.push(object(alloc, b"album", ObjectRule::Directly)?)?;
+    objects.push(object(alloc, b"session", ObjectRule::ShortTtl(60))?)?;
+    let mut edges = List::new(alloc);
+    edges.push(edge(alloc, b"owns", b"user", b"photo", EdgeRule::Deep)?)?;
+    edges.push(edge(alloc, b"likes", b"user", b"photo", EdgeRule::Shallow)?)?;
+    edges.push(edge(alloc, b"holds", b"album", b"photo", EdgeRule::Refcount)?)?;
+    edges.push(edge(alloc, b"uses", b"user", b"session", EdgeRule::Deep)?)?;
+    Ok(Schema {
+        window: 100,
+        objects,
+        edges,
+    })
+}
+
+// Pages refer to pages.
+fn pages(alloc: Global) -> Result<Schema, Fail> {
+    let mut objects = List::new(alloc);
+    objects.push(object(alloc, b"page", ObjectRule::Directly)?)?;
+    let mut edges = List::new(alloc);
+    edges.push(edge(alloc, b"refs", b"page", b"page", EdgeRule::Refcount)?)?;
+    Ok(Schema {
+        window: 0,
+        objects,
+        edges,
+    })
+}
+
+fn opened(alloc: Global, schema: &Schema) -> Result<Ledger<ListGraph>, Fail> {
+    if !is_spellable(schema) {
+        return Err(Fail::from("no text spells the schema"));
+    }
+    let rules = Rules::of(alloc, schema)?;
+    let graph = ListGraph::empty(alloc, &rules)?;
+    Ok(Ledger::new(alloc, rules, graph))
+}
+
+// That the order is answered so.
+fn answers(
+    rt: &impl Abort,
+    alloc: Global,
+    ledger: &mut Ledger<ListGraph>,
+    clock: &mut Moment,
+    order: Order,
+    wanted: Answer,
+) -> Result<(), Fail> {
+    let answer = answer_to(alloc, ledger, clock, order)?;
+    assert_eq!(rt; answer, wanted, "at {order:?}");
+    Ok(())
+}
+
+// That a ledger which is blank at this moment answers each order so.
+fn plays(
+    rt: &impl Abort,
+    alloc: Global,
+    schema: &Schema,
+    mut clock: Moment,
+    rows: &[(Order, Answer)],
+) -> Result<(), Fail> {
+    let mut ledger = opened(alloc, schema)?;
+    for (order, wanted) in rows {
+        answers(rt, alloc, &mut ledger, &mut clock, *order, *wanted)?;
+    }
+    Ok(())
+}
+
+fn line(job: u32, name: JobName, root: ObjectId, erased: u32, cut: u32, status: Status) -> Answer {
+    Answer::Line(JobLine {
+        job: Job(job),
+        name,
+        root,
+        erased,
+        cut,
+        status,
+    })
+}
+
+fn cut(job: u32, edge: u8, from: ObjectId, to: ObjectId) -> Answer {
+    Answer::Entry(What::Cut {
+        job: Job(job),
+        edge: EdgeNo(edge),
+        from,
+        to,
+    })
+}
+
+fn erase(job: u32, id: ObjectId) -> Answer {
+    Answer::Entry(What::Erase { job: Job(job), id })
+}
+
+fn put(job: u32, item: u32) -> Answer {
+    Answer::Entry(What::Put {
+        job: Job(job),
+        item,
+    })
+}
+
+#[test]
+fn a_deletion_takes_what_was_owned_and_is_put_back(rt: HostRuntime) -> Result<(), Fail> {
+    let (one, two) = (id(1)?, id(2)?);
+    plays(
+        &rt,
+        rt.alloc(),
+        &photos(rt.alloc())?,
+        0,
+        &[
+            (Order::Create(USER, 1, 1), Answer::At(0)),
+            (Order::Create(PHOTO, 2, 1), Answer::At(1)),
+            (Order::Link(OWNS, 1, 2), Answer::At(2)),
+            (Order::Delete(1, 40), Answer::At(3)),
+            (Order::Work(10), Answer::Idle(3)),
+            (Order::Graph, Answer::Graph(0, 0)),
+            (Order::Entry(4), cut(3, OWNS, one, two)),
+            (Order::Entry(5), erase(3, one)),
+            (Order::Entry(6), erase(3, two)),
+            (Order::Entry(7), Answer::Nothing),
+            (Order::Restore(40), Answer::At(7)),
+            (Order::Work(10), Answer::Idle(3)),
+            (Order::Graph, Answer::Graph(2, 1)),
+            (Order::Object(1), Answer::Free(USER, 0, 1)),
+            (Order::Object(2), Answer::Free(PHOTO, 1, 1)),
+            (Order::Edge(OWNS, 1, 2), Answer::Linked(2)),
+        ],
+    )
+}
+
+#[test]
+fn what_was_made_since_is_kept(rt: HostRuntime) -> Result<(), Fail> {
+    let (one, two) = (id(1)?, id(2)?);
+    plays(
+        &rt,
+        rt.alloc(),
+        &photos(rt.alloc())?,
+        0,
+        &[
+            (Order::Create(USER, 1, 1), Answer::At(0)),
+            (Order::Create(PHOTO, 2, 1), Answer::At(1)),
+            (Order::Link(OWNS, 1, 2), Answer::At(2)),
+            (Order::Delete(1, 40), Answer::At(3)),
+            (Order::Work(10), Answer::Idle(3)),
+            (Order::Create(PHOTO, 2, 1), Answer::At(7)),
+            (Order::Restore(40), Answer::At(8)),
+            (Order::Work(10), Answer::Idle(3)),
+            (
+                Order::Line(0),
+                line(
+                    3,
+                    JobName::Named(40),
+                    one,
+                    2,
+                    1,
+                    Status::Restored { put: 1, listed: 2 },
+                ),
+            ),
+            (
+                Order::Listed(3, 0),
+                Answer::Listed(2, Cause::Taken { birth: 7 }),
+            ),
+            (
+                Order::Listed(3, 1),
+                Answer::Listed(0, Cause::EndMissing { id: two }),
+            ),
+            (Order::Listed(3, 2), Answer::Nothing),
+            (Order::Graph, Answer::Graph(2, 0)),
+            (Order::Object(1), Answer::Free(USER, 0, 1)),
+            (Order::Object(2), Answer::Free(PHOTO, 7, 1)),
+        ],
+    )
+}
+
+#[test]
+fn a_photo_goes_with_its_last_album(rt: HostRuntime) -> Result<(), Fail> {
+    plays(
+        &rt,
+        rt.alloc(),
+        &photos(rt.alloc())?,
+        0,
+        &[
+            (Order::Create(ALBUM, 5, 0), Answer::At(0)),
+            (Order::Create(ALBUM, 6, 0), Answer::At(1)),
+            (Order::Create(PHOTO, 3, 1), Answer::At(2)),
+            (Order::Link(HOLDS, 5, 3), Answer::At(3)),
+            (Order::Link(HOLDS, 6, 3), Answer::At(4)),
+            (Order::Delete(5, 40), Answer::At(5)),
+            (Order::Work(10), Answer::Idle(2)),
+            (Order::Object(3), Answer::Free(PHOTO, 2, 1)),
+            (Order::Unlink(HOLDS, 6, 3, 41), Answer::At(8)),
+            (Order::Object(3), Answer::Owned(Job(8))),
+            (Order::Work(10), Answer::Idle(1)),
+            (Order::Graph, Answer::Graph(1, 0)),
+            (Order::Object(6), Answer::Free(ALBUM, 1, 0)),
+        ],
+    )
+}
+
+#[test]
+fn an_owner_takes_what_an_album_holds(rt: HostRuntime) -> Result<(), Fail> {
+    let one = id(1)?;
+    plays(
+        &rt,
+        rt.alloc(),
+        &photos(rt.alloc())?,
+        0,
+        &[
+            (Order::Create(USER, 1, 0), Answer::At(0)),
+            (Order::Create(ALBUM, 5, 0), Answer::At(1)),
+            (Order::Create(PHOTO, 3, 0), Answer::At(2)),
+            (Order::Link(HOLDS, 5, 3), Answer::At(3)),
+            (Order::Link(OWNS, 1, 3), Answer::At(4)),
+            (Order::Delete(1, 40), Answer::At(5)),
+            (Order::Work(10), Answer::Idle(4)),
+            (
+                Order::Line(0),
+                line(
+                    5,
+                    JobName::Named(40),
+                    one,
+                    2,
+                    2,
+                    Status::Done {
+                        erased: 2,
+                        cut: 2,
+                        last: 0,
+                    },
+                ),
+            ),
+            (Order::Graph, Answer::Graph(1, 0)),
+            (Order::Object(5), Answer::Free(ALBUM, 1, 0)),
+        ],
+    )
+}
+
+#[test]
+fn two_jobs_meet(rt: HostRuntime) -> Result<(), Fail> {
+    let (one, two, nine) = (id(1)?, id(2)?, id(9)?);
+    plays(
+        &rt,
+        rt.alloc(),
+        &photos(rt.alloc())?,
+        0,
+        &[
+            (Order::Create(USER, 1, 0), Answer::At(0)),
+            (Order::Create(USER, 9, 0), Answer::At(1)),
+            (Order::Create(PHOTO, 2, 0), Answer::At(2)),
+            (Order::Link(OWNS, 1, 2), Answer::At(3)),
+            (Order::Link(OWNS, 9, 2), Answer::At(4)),
+            (Order::Delete(1, 40), Answer::At(5)),
+            (Order::Delete(9, 41), Answer::At(6)),
+            (Order::Work(4), Answer::Worked(4)),
+            (Order::Entry(7), cut(5, OWNS, one, two)),
+            (Order::Entry(8), erase(5, one)),
+            (Order::Entry(9), cut(5, OWNS, nine, two)),
+            (Order::Entry(10), erase(5, two)),
+            (
+                Order::Line(0),
+                line(
+                    5,
+                    JobName::Named(40),
+                    one,
+                    2,
+                    2,
+                    Status::Done {
+                        erased: 2,
+                        cut: 2,
+                        last: 0,
+                    },
+                ),
+            ),
+            (
+                Order::Line(1),
+                line(
+                    6,
+                    JobName::Named(41),
+                    nine,
+                    0,
+                    0,
+                    Status::Pending { owned: 1 },
+                ),
+            ),
+            (Order::Line(2), Answer::Nothing),
+            (Order::Restore(40), Answer::At(11)),
+            (Order::Work(10), Answer::Idle(5)),
+            (Order::Entry(12), put(5, 3)),
+            (Order::Entry(13), put(5, 2)),
+            (Order::Entry(14), put(5, 1)),
+            (Order::Entry(15), put(5, 0)),
+            (Order::Entry(16), erase(6, nine)),
+            (
+                Order::Status(40),
+                Answer::Status(Status::Restored { put: 3, listed: 1 }),
+            ),
+            (
+                Order::Listed(5, 0),
+                Answer::Listed(
+                    2,
+                    Cause::EndCondemned {
+                        id: nine,
+                        job: Job(6),
+                    },
+                ),
+            ),
+            (Order::Listed(5, 1), Answer::Nothing),
+            (
+                Order::Line(1),
+                line(
+                    6,
+                    JobName::Named(41),
+                    nine,
+                    1,
+                    0,
+                    Status::Done {
+                        erased: 1,
+                        cut: 0,
+                        last: 0,
+                    },
+                ),
+            ),
+        ],
+    )
+}
+
+#[test]
+fn refusals_come_in_their_order(rt: HostRuntime) -> Result<(), Fail> {
+    let (one, two, eight) = (id(1)?, id(2)?, id(8)?);
+    let condemned = Refusal::Condemned {
+        id: one,
+        job: Job(3),
+    };
+    plays(
+        &rt,
+        rt.alloc(),
+        &photos(rt.alloc())?,
+        0,
+        &[
+            (Order::Create(USER, 1, 1), Answer::At(0)),
+            (Order::Create(PHOTO, 2, 1), Answer::At(1)),
+            (Order::Link(OWNS, 1, 2), Answer::At(2)),
+            (
+                Order::Delete(2, 40),
+                Answer::Refused(
+                    3,
+                    Refusal::NotDirect {
+                        rule: ObjectRule::ByAny,
+                    },
+                ),
+            ),
+            (
+                Order::Link(OWNS, 2, 1),
+                Answer::Refused(
+                    3,
+                    Refusal::WrongEnd {
+                        id: two,
+                        kind: TypeNo(PHOTO),
+                    },
+                ),
+            ),
+            (
+                Order::Link(OWNS, 1, 2),
+                Answer::Refused(3, Refusal::EdgeTaken { birth: 2 }),
+            ),
+            (
+                Order::Unlink(LIKES, 1, 2, 9),
+                Answer::Refused(3, Refusal::NoEdge),
+            ),
+            (
+                Order::Update(8, 1),
+                Answer::Refused(3, Refusal::Absent { id: eight }),
+            ),
+            (Order::Delete(1, 40), Answer::At(3)),
+            (Order::Update(1, 1), Answer::Refused(4, condemned)),
+            (Order::Delete(1, 41), Answer::Refused(4, condemned)),
+            (Order::Unlink(OWNS, 1, 2, 42), Answer::Refused(4, condemned)),
+            (
+                Order::Create(USER, 1, 0),
+                Answer::Refused(4, Refusal::NameTaken { id: one, birth: 0 }),
+            ),
+            (Order::Create(USER, 7, 0), Answer::At(4)),
+            (
+                Order::Delete(7, 40),
+                Answer::Refused(5, Refusal::JobTaken { name: 40 }),
+            ),
+        ],
+    )
+}
+
+#[test]
+fn a_window_ends(rt: HostRuntime) -> Result<(), Fail> {
+    let schema = photos(rt.alloc())?;
+    plays(
+        &rt,
+        rt.alloc(),
+        &schema,
+        0,
+        &[
+            (Order::Create(USER, 1, 1), Answer::At(0)),
+            (Order::Create(PHOTO, 2, 1), Answer::At(1)),
+            (Order::Link(OWNS, 1, 2), Answer::At(2)),
+            (Order::Delete(1, 40), Answer::At(3)),
+            (Order::Work(10), Answer::Idle(3)),
+            (Order::Tick(100), Answer::Ticked),
+            (Order::Work(10), Answer::Idle(0)),
+            (Order::Restore(40), Answer::At(7)),
+        ],
+    )?;
+    plays(
+        &rt,
+        rt.alloc(),
+        &schema,
+        0,
+        &[
+            (Order::Create(USER, 1, 1), Answer::At(0)),
+            (Order::Create(PHOTO, 2, 1), Answer::At(1)),
+            (Order::Link(OWNS, 1, 2), Answer::At(2)),
+            (Order::Delete(1, 40), Answer::At(3)),
+            (Order::Work(10), Answer::Idle(3)),
+            (Order::Tick(101), Answer::Ticked),
+            (
+                Order::Restore(40),
+                Answer::Refused(7, Refusal::WindowOver { last: 100 }),
+            ),
+            (Order::Work(10), Answer::Idle(1)),
+            (Order::Entry(7), Answer::Entry(What::Purge { job: Job(3) })),
+            (
+                Order::Restore(40),
+                Answer::Refused(8, Refusal::WindowOver { last: 100 }),
+            ),
+            (Order::Status(40), Answer::Status(Status::Purged)),
+        ],
+    )
+}
+
+#[test]
+fn a_restore_waits_and_is_made_once(rt: HostRuntime) -> Result<(), Fail> {
+    plays(
+        &rt,
+        rt.alloc(),
+        &photos(rt.alloc())?,
+        0,
+        &[
+            (Order::Create(USER, 1, 1), Answer::At(0)),
+            (Order::Create(PHOTO, 2, 1), Answer::At(1)),
+            (Order::Link(OWNS, 1, 2), Answer::At(2)),
+            (Order::Delete(1, 40), Answer::At(3)),
+            (
+                Order::Restore(40),
+                Answer::Refused(4, Refusal::Pending { owned: 1 }),
+            ),
+            (Order::Work(1), Answer::Worked(1)),
+            (
+                Order::Restore(40),
+                Answer::Refused(5, Refusal::Pending { owned: 2 }),
+            ),
+            (Order::Work(10), Answer::Idle(2)),
+            (Order::Restore(40), Answer::At(7)),
+            (
+                Order::Restore(40),
+                Answer::Refused(8, Refusal::RestoredBefore { position: 7 }),
+            ),
+            (Order::Restore(77), Answer::Refused(8, Refusal::NoJob)),
+            (Order::Work(2), Answer::Worked(2)),
+            (Order::Link(OWNS, 1, 2), Answer::At(10)),
+            (Order::Work(10), Answer::Idle(1)),
+            (
+                Order::Status(40),
+                Answer::Status(Status::Restored { put: 2, listed: 1 }),
+            ),
+            (
+                Order::Listed(3, 0),
+                Answer::Listed(0, Cause::KeyTaken { birth: 10 }),
+            ),
+            (Order::Listed(3, 1), Answer::Nothing),
+        ],
+    )
+}
+
+#[test]
+fn a_session_expires(rt: HostRuntime) -> Result<(), Fail> {
+    let seven = id(7)?;
+    let name = JobName::Expiry(seven);
+    plays(
+        &rt,
+        rt.alloc(),
+        &photos(rt.alloc())?,
+        5,
+        &[
+            (Order::Create(SESSION, 7, 1), Answer::At(0)),
+            (Order::Tick(59), Answer::Ticked),
+            (Order::Work(10), Answer::Idle(0)),
+            (Order::Tick(1), Answer::Ticked),
+            (Order::Work(10), Answer::Idle(2)),
+            (Order::RestoreExpiry(7), Answer::At(3)),
+            (Order::Work(10), Answer::Idle(3)),
+            (
+                Order::Line(0),
+                line(1, name, seven, 1, 0, Status::Restored { put: 1, listed: 0 }),
+            ),
+            (
+                Order::Line(1),
+                line(
+                    5,
+                    name,
+                    seven,
+                    1,
+                    0,
+                    Status::Done {
+                        erased: 1,
+                        cut: 0,
+                        last: 65,
+                    },
+                ),
+            ),
+            (Order::Line(2), Answer::Nothing),
+        ],
+    )
+}
+
+#[test]
+fn a_page_that_refers_to_itself_is_held_by_that(rt: HostRuntime) -> Result<(), Fail> {
+    plays(
+        &rt,
+        rt.alloc(),
+        &pages(rt.alloc())?,
+        0,
+        &[
+            (Order::Create(PAGE, 1, 0), Answer::At(0)),
+            (Order::Link(REFS, 1, 1), Answer::At(1)),
+            (Order::Create(PAGE, 2, 0), Answer::At(2)),
+            (Order::Link(REFS, 2, 1), Answer::At(3)),
+            (Order::Unlink(REFS, 2, 1, 9), Answer::At(4)),
+            (Order::Status(9), Answer::Status(Status::NoJob)),
+            (Order::Unlink(REFS, 1, 1, 9), Answer::At(5)),
+            (Order::Object(1), Answer::Owned(Job(5))),
+            (Order::Work(10), Answer::Idle(1)),
+            (Order::Graph, Answer::Graph(1, 0)),
+            (Order::Object(2), Answer::Free(PAGE, 2, 0)),
+        ],
+    )
+}
+
+const WAVES: u32 = 100;
+
+// A hundred users are created, deleted and erased, where so many waves were before.
+fn wave(
+    rt: &impl Abort,
+    alloc: Global,
+    ledger: &mut Ledger<ListGraph>,
+    clock: &mut Moment,
+    before: u32,
+) -> Result<(), Fail>
+    requires { before < WAVES }
+{
+    for i in 0..100 {
+        let order = Order::Create(USER, (100 * before + i + 1) as u64, 0);
+        answers(
+            rt,
+            alloc,
+            ledger,
+            clock,
+            order,
+            Answer::At(300 * before + i),
+        )?;
+    }
+    for i in 0..100 {
+        let order = Order::Delete((100 * before + i + 1) as u64, 100 * before + i);
+        answers(
+            rt,
+            alloc,
+            ledger,
+            clock,
+            order,
+            Answer::At(300 * before + 100 + i),
+        )?;
+    }
+    answers(
+        rt,
+        alloc,
+        ledger,
+        clock,
+        Order::Work(1_000),
+        Answer::Idle(100),
+    )
+}
+
+#[test]
+fn many_users_come_and_go(rt: HostRuntime) -> Result<(), Fail> {
+    let alloc = rt.alloc();
+    let mut ledger = opened(alloc, &photos(alloc)?)?;
+    let mut clock = 0;
+    for before in 0..WAVES {
+        wave(&rt, alloc, &mut ledger, &mut clock, before)?;
+    }
+    // Each job is purged once the window is over.
+    for (order, wanted) in [
+        (Order::Tick(100), Answer::Ticked),
+        (Order::Work(1_000_000), Answer::Idle(0)),
+        (Order::Tick(1), Answer::Ticked),
+        (Order::Work(1_000_000), Answer::Idle(100 * WAVES)),
+        (
+            Order::Status(100 * WAVES - 1),
+            Answer::Status(Status::Purged),
+        ),
+        (Order::Entry(400 * WAVES), Answer::Nothing),
+    ] {
+        answers(&rt, alloc, &mut ledger, &mut clock, order, wanted)?;
+    }
+    assert_eq!(rt; ledger.len(), 400 * WAVES);
+    Ok(())
+}

@@ -1,0 +1,11 @@
+mod Records
+mod JournalRecords
+mod Gates
+mod Started
+mod JournalJudged
+mod ItemRecords
+mod VaultJudged
+mod DeadPayloads
+mod Mended
+mod Spelled
+mod Faults

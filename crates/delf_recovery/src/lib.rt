@@ -1,0 +1,20 @@
+//! The opening of a store: both areas are read, tried against the rules, mended and scrubbed, and a book stands over
+//! them.
+#![tactic(auto)]
+
+mod entries;
+mod fault;
+mod items;
+mod journal;
+mod mending;
+mod open;
+mod parts;
+mod reading;
+mod scrubs;
+mod starting;
+#[cfg(test)]
+mod tests;
+mod vaults;
+
+pub use fault::OpenFault;
+pub use open::open_book;

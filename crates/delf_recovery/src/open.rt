@@ -1,0 +1,82 @@
+//! The opening of a store.
+ghost use Rattle.std.specs.Prelude.{◌≡◌, ◌⊎◌, false, ℕ, List, None, IfOk, IfErr};
+ghost use Rattle.delf_disk.specs.declared.area.Area.{Area as AnArea};
+ghost use Rattle.delf_disk.specs.Areas.{Areas};
+ghost use Rattle.delf_disk.specs.Plain.{Plain, SameKind};
+ghost use Rattle.delf_disk.specs.Moments.{Leaves};
+ghost use Rattle.delf_model.specs.declared.entry.Entry.{Entry};
+ghost use Rattle.delf_model.specs.RuleSet.{is_refcount};
+ghost use Rattle.delf_model.specs.Graph.{empty_graph};
+ghost use Rattle.delf_model.specs.Legal.{Legal};
+ghost use Rattle.delf_model.specs.Payloads.{Payloads};
+ghost use Rattle.delf_model.specs.Sound.{Sound};
+ghost use Rattle.store_laws.specs.Stores.{StandBut, Clean};
+ghost use Rattle.store_laws.specs.Moves.{RestIn};
+ghost use Rattle.entry_codec.specs.EntryHead.{AreEntries};
+ghost use Rattle.opening_laws.specs.Places.{BadPlace};
+ghost use Rattle.delf_recovery.specs.Opening.{rig_in, StandsNow, IsNotBad, IsBadAt, OnlyBad, StaysUnwritten, CountsOpening};
+
+use crate::fault::OpenFault;
+use crate::parts::open_parts;
+use delf_book::Book;
+use delf_disk::Rig;
+use delf_model::{GraphStore, Rules};
+use history_laws::legal_is_sound;
+use std::alloc::Global;
+
+/// Opens the store that stands on this disk, for a schema with these rules. A sync comes first. A blank area is given
+/// its mark. The journal is read, then the vault, each once and from the front. One vault record that no entry names is
+/// dropped, zeros are written over every payload that is not needed, and a sync comes last.
+///
+/// With `Err` the disk comes back. `BadStore` comes exactly where a place is bad, the first one; it writes nothing to a
+/// store whose journal is bad.
+pub fn open_book<G: GraphStore + Drop, R: Rig>(
+    alloc: Global,
+    rules: Rules,
+    graph: G,
+    rig: R,
+) -> Result<Book<G, R>, (OpenFault, R)>
+    requires blank { G.graph graph ≡ empty_graph }
+    requires counts { (edge : ℕ) → G.counts graph edge ≡ is_refcount rules edge }
+
+    ensures rules { IfOk result (λ book. book.rules ≡ rules) }
+    ensures up { IfOk result (λ book. book.down ≡ false) }
+    ensures beside { IfOk result (λ book. book.beside ≡ None) }
+    ensures legal { IfOk result (λ book. Legal book.rules book.history) }
+    ensures sound { IfOk result (λ book. Sound book.rules book.history) }
+
+    // The history is the one that the store stands for.
+    ensures found { IfOk result (λ book. Plain (R.Disk.told rig) (R.Disk.honest rig)
+        → StandsNow rules book.history (R.Disk.seen rig)) }
+    ensures opened { IfOk result (λ book. Plain (R.Disk.told rig) (R.Disk.honest rig) → (history : List Entry) (e : Payloads)
+        → AreEntries history → StandBut rules history e (R.Disk.seen rig)
+        → (book.history ≡ history) × RestIn rules history e (R.Disk.may_leave book.rig)) }
+    // No payload is left that is not needed, but behind closed gates.
+    ensures clean { IfOk result (λ book. Plain (R.Disk.told rig) (R.Disk.honest rig) → (c : Areas)
+        → R.Disk.may_leave book.rig c → Clean rules book.history c) }
+
+    // A store is bad exactly where a place of it is.
+    ensures bad { IfErr result (λ it. Plain (R.Disk.told rig) (R.Disk.honest rig) → IsBadAt rules (R.Disk.seen rig) it.0) }
+    ensures bad_told { Plain (R.Disk.told rig) (R.Disk.honest rig) → (area : AnArea) (at : ℕ)
+        → BadPlace rules (R.Disk.seen rig) area at → OnlyBad area at result }
+    ensures never { Plain (R.Disk.told rig) (R.Disk.honest rig) → (history : List Entry) (e : Payloads)
+        → AreEntries history → StandBut rules history e (R.Disk.seen rig) → IfErr result (λ it. IsNotBad it.0) }
+
+    // Whatever a crash leaves meanwhile stands for the same, but for what it might have left before.
+    ensures crash { Plain (R.Disk.told rig) (R.Disk.honest rig) → (history : List Entry) (e : Payloads)
+        → AreEntries history → StandBut rules history e (R.Disk.seen rig)
+        → Leaves R.Disk.moment R.Disk.may_leave R.Disk.left_since
+        (λ c. R.Disk.may_leave rig c ⊎ StandBut rules history e c) rig (rig_in result) }
+    ensures unwritten { Plain (R.Disk.told rig) (R.Disk.honest rig)
+        → StaysUnwritten R.Disk.seen R.Disk.may_leave rig result }
+
+    ensures kind { SameKind R.Disk.told R.Disk.honest R.Disk.order R.Disk.orders rig (rig_in result) }
+    ensures cause { CountsOpening (R.Disk.faults rig) (R.Disk.faults (rig_in result)) result }
+{
+    legal_is_sound();
+    let mut rig = rig;
+    match open_parts(alloc, rules, graph, &mut rig) {
+        Ok(parts) => Ok(parts.fold.into_book(parts.journal, parts.vault, rig)),
+        Err(fault) => Err((fault, rig)),
+    }
+}

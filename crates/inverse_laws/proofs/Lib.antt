@@ -1,5 +1,0 @@
-pub mod Back
-pub mod Example
-pub mod Inverse
-pub mod Items
-pub mod Outside

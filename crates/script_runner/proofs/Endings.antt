@@ -1,0 +1,53 @@
+-- The last settling, said of the world.
+use Rattle.std.proofs.Common.{◌≡◌, ◌⊎◌, ℕ, ◌≤◌, true, false, Option, None, List, ◌++◌, length, refl, sym, ap, subst, ◌∙◌, inl, inr}
+use Rattle.std.specs.Prelude.{Result, Ok, Err}
+use Rattle.delf_disk.specs.Areas.{Areas}
+use Rattle.delf_disk.specs.Causes.{Rose}
+use Rattle.delf_model.specs.Legal.{Legal}
+use Rattle.delf_model.specs.Payloads.{Payloads}
+use Rattle.store_laws.specs.Stores.{Settled}
+use Rattle.store_laws.specs.Moves.{RestIn}
+use Rattle.delf_book.specs.Books.{Booked, Fell, WasDown}
+use Rattle.job_report.specs.Texts.{down_text}
+use Rattle.script_runner.specs.declared.status.Status.{Status}
+use Rattle.script_runner.specs.declared.status.Status.TheVariants.{Done, Usage, BadDocument, ReadFault, WriteFault, OutOfMemory, Down, BadStore}
+use Rattle.script_runner.specs.Endings.{Settles, StaysDown, FallsAtEnd, EndText, DownText, DownCause}
+use Rattle.script_runner.specs.Outcomes.{IsCut}
+use Rattle.script_runner.specs.Worlds.{World, StandsOn, IsHeld, world_of}
+use Rattle.script_runner.proofs.Standing.{rest_held}
+
+pub settled_end : {G R : Type 0} → (may_leave : R → Areas → Type 0) (faults : R → ℕ) (old : Booked G R) (now rig : R) (clock : ℕ) (e : Payloads) (before after : List ℕ) →
+    rig ≡ now → after ≡ before → old.down ≡ false → faults now ≡ faults old.rig → ((c : Areas) → may_leave now c → Settled old.rules old.history c) →
+    RestIn old.rules old.history e (may_leave now) → Settles (world_of old clock e) (faults old.rig) (faults rig) (may_leave rig) before after
+settled_end {G} {R} may_leave faults old now rig clock e before after same text up count settled rests =
+    subst (λ (r : R). Settles (world_of old clock e) (faults old.rig) (faults r) (may_leave r) before after) (sym same)
+    (record { up = up; count = count; text = text; settled = settled; rests = rests })
+
+pub down_end : {G R : Type 0} → (may_leave : R → Areas → Type 0) (faults : R → ℕ) (old now : Booked G R) (rig : R) (clock len : ℕ) (e : Payloads) (before after : List ℕ) →
+    rig ≡ now.rig → after ≡ before → WasDown old now len → StandsOn (world_of old clock e) (may_leave old.rig) →
+    StaysDown (world_of old clock e) (faults old.rig) (faults rig) (may_leave rig) before after len
+down_end {G} {R} may_leave faults old now rig clock len e before after same text was stands =
+    let is : rig ≡ old.rig = same ∙ ap (λ (b : Booked G R). b.rig) was.2 in
+    subst (λ (r : R). StaysDown (world_of old clock e) (faults old.rig) (faults r) (may_leave r) before after len) (sym is)
+    (record { down = was.0; count = refl; length_is = was.1; text = text; held = stands.held was.0 })
+
+pub fell_end : {G R : Type 0} → (may_leave : R → Areas → Type 0) (faults : R → ℕ) (old : Booked G R) (now rig : R) (clock : ℕ) (e : Payloads) → rig ≡ now →
+    Legal old.rules old.history → old.down ≡ false → Rose (faults old.rig) (faults now) → RestIn old.rules old.history e (may_leave now) →
+    StandsOn (world_of old clock e) (may_leave old.rig) → FallsAtEnd (world_of old clock e) (faults old.rig) (faults rig) (may_leave rig)
+fell_end {G} {R} may_leave faults old now rig clock e same legal up rose rests stands =
+    subst (λ (r : R). FallsAtEnd (world_of old clock e) (faults old.rig) (faults r) (may_leave r)) (sym same)
+    (record { up = up; rose = rose; held = rest_held (world_of old clock e) (may_leave now) legal (stands.alone up) rests })
+
+-- what was put of the line of a disk fault
+pub fell_text : (w : World) (len done start now : ℕ) (images : Areas → Type 0) (before after : List ℕ) (write_rose : Type 0) (status : Status) → len ≡ length w.history →
+    FallsAtEnd w start now images → DownText len before after status → DownCause len done write_rose status → EndText w done start now images before after status
+fell_text w len done start now images before after write_rose Done is falls text cause = absurd text
+fell_text w len done start now images before after write_rose Usage is falls text cause = text
+fell_text w len done start now images before after write_rose (BadDocument line) is falls text cause = text
+fell_text w len done start now images before after write_rose ReadFault is falls text cause = text
+fell_text w len done start now images before after write_rose (WriteFault n) is falls text cause =
+    (cause.0, falls, subst (λ (l : ℕ). IsCut before after (down_text l)) is text)
+fell_text w len done start now images before after write_rose (OutOfMemory n) is falls text cause = (cause, falls.held, text)
+fell_text w len done start now images before after write_rose (Down n) is falls text cause =
+    inr (falls, cause ∙ is, text ∙ ap (λ (l : ℕ). before ++ down_text l) (sym cause))
+fell_text w len done start now images before after write_rose (BadStore area at) is falls text cause = text

@@ -1,0 +1,18 @@
+use Rattle.std.proofs.Common.{sym, ◌∙◌}
+use Rattle.std.proofs.lemmas.Result.{IfOk-weaker}
+use Rattle.delf_model.specs.Graph.{object_at}
+use Rattle.script_runner.specs.Serial.{row_found, graph_lines, report_line}
+use Rattle.script_runner.specs.Worlds.{state_of}
+use Rattle.script_runner.proofs.Calls.{ok_is, on_err}
+use Rattle.script_runner.proofs.Moves.{reads_out, reads_held, reads_kind, reads_rules, reads_falls, down_out, down_held}
+use Rattle.script_runner.proofs.script.get.Goals as goal
+
+pub returns-clause-serves : goal.returns-clause-serves
+returns-clause-serves g c = IfOk-weaker c.told_or_down.result _ _ (λ text is plain.
+    reads_out g.R.Disk.told g.R.Disk.honest g.R.Disk.may_leave g.R.Disk.order g.R.Disk.orders g.R.Disk.faults c.args.book.now c.found-told.new.book (λ w. row_found c.args.schema.now w c.args.id (object_at (state_of w).graph c.args.id)) text c.found-told.result
+    (sym c.is_down.ensures ∙ c.if-is_down.false) c.len-len.ensures.legal c.found-told.ensures.leaves (λ line ok. ok_is _ c.found-told.result line ok c.found-told.ensures.text) is plain) c.told_or_down.ensures
+
+pub returns-clause-halts : goal.returns-clause-halts
+returns-clause-halts g c = on_err c.told_or_down.result (λ plain.
+    reads_held g.R.Disk.told g.R.Disk.honest g.R.Disk.may_leave g.R.Disk.order g.R.Disk.orders g.R.Disk.faults c.args.book.now c.found-told.new.book c.found-told.result
+    (sym c.is_down.ensures ∙ c.if-is_down.false) c.len-len.ensures.legal c.found-told.ensures.leaves plain)

@@ -1,6 +1,0 @@
-use Rattle.std.proofs.Common.{◌≡◌, flat_map, take}
-use Rattle.script_runner.specs.Serial.{edge_line}
-use Rattle.script_runner.proofs.shows.edge_lines.Given as goal
-
-abbrev pub invariant-loop-row : goal.invariant-loop-row
-invariant-loop-row l = l.text.items ≡ flat_map (edge_line l.schema l.store) (take l.row-index l.rows)

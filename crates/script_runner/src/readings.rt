@@ -1,0 +1,114 @@
+//! What lines tell of a book.
+ghost use Rattle.std.specs.Prelude.{◌≡◌, ◌≤◌, ◌++◌, IfOk, IfSome, IsTrue, OnOk, length, map, option_to_list};
+ghost use Rattle.std.specs.List.{AllByRecursion};
+ghost use Rattle.delf_model.specs.Graph.{object_at, objects_rise, edges_rise};
+ghost use Rattle.delf_model.specs.State.{job_row};
+ghost use Rattle.delf_model.specs.Report.{job_at, job_line, line_of_row, listed_at};
+ghost use Rattle.delf_book.specs.Books.{state_in};
+ghost use Rattle.script_runner.specs.Names.{IsNumberedObject, IsNumberedEdge, IsNumberedListed};
+
+use delf_book::Book;
+use delf_disk::Rig;
+use delf_model::{EdgeRow, GraphStore, Job, JobLine, JobName, List, Listed, ObjectId, ObjectRow};
+use live_graph::ListGraph;
+use std::alloc::{AllocError, Global};
+
+/// The objects by rising id; the only error is want of memory.
+pub(crate) fn objects<R: Rig>(
+    alloc: Global,
+    book: &Book<ListGraph, R>,
+) -> Result<Vec<ObjectRow>, AllocError>
+    ensures rows { IfOk result (λ rows. rows.items ≡ (state_in book.now).graph.objects) }
+    ensures rise { IfOk result (λ rows. IsTrue (objects_rise rows.items)) }
+    ensures numbered { IfOk result (λ rows. AllByRecursion (IsNumberedObject book.now.rules) rows.items) }
+    ensures few { IfOk result (λ rows. length rows.items ≤ 500000) }
+{
+    let _len = book.len();
+    book.graph().objects(alloc)
+}
+
+/// The edges by rising key; the only error is want of memory.
+pub(crate) fn edges<R: Rig>(
+    alloc: Global,
+    book: &Book<ListGraph, R>,
+) -> Result<Vec<EdgeRow>, AllocError>
+    ensures rows { IfOk result (λ rows. rows.items ≡ (state_in book.now).graph.edges) }
+    ensures rise { IfOk result (λ rows. IsTrue (edges_rise rows.items)) }
+    ensures numbered { IfOk result (λ rows. AllByRecursion (IsNumberedEdge book.now.rules) rows.items) }
+    ensures few { IfOk result (λ rows. length rows.items ≤ 500000) }
+{
+    let _len = book.len();
+    book.graph().edges(alloc)
+}
+
+/// The row of the object with this id.
+pub(crate) fn object<R: Rig>(book: &Book<ListGraph, R>, id: ObjectId) -> Option<ObjectRow>
+    ensures row { result ≡ object_at (state_in book.now).graph id }
+    ensures numbered { IfSome result (IsNumberedObject book.now.rules) }
+{
+    let _len = book.len();
+    book.graph().object(id)
+}
+
+/// The line of each job, by age; the only error is want of memory.
+pub(crate) fn job_lines<R: Rig>(
+    alloc: Global,
+    book: &Book<ListGraph, R>,
+) -> Result<List<JobLine>, AllocError>
+    ensures lines { IfOk result (λ lines. lines ≡ map (job_line (state_in book.now)) (state_in book.now).jobs) }
+    ensures few { IfOk result (λ lines. length lines ≤ 500000) }
+{
+    let mut lines = List::new(alloc);
+    for place in 0..book.len() {
+        add_line(book, place, &mut lines)?;
+    }
+    Ok(lines)
+}
+
+// Adds the line of the job at this place, if there is one.
+fn add_line<R: Rig>(
+    book: &Book<ListGraph, R>,
+    place: u32,
+    lines: &mut List<JobLine>,
+) -> Result<(), AllocError>
+    ensures { OnOk result (lines.new ≡ lines.old ++ option_to_list (job_at (state_in book.now) place)) }
+{
+    match book.job_at(place) {
+        Some(line) => {
+            let name: JobName = line.name;
+            lines.push(JobLine {
+                job: line.job,
+                name,
+                root: line.root,
+                erased: line.erased,
+                cut: line.cut,
+                status: line.status,
+            })
+        }
+        None => Ok(()),
+    }
+}
+
+/// The line of the job that was started at this position.
+pub(crate) fn line_of<R: Rig>(book: &Book<ListGraph, R>, job: Job) -> Option<JobLine>
+    ensures { result ≡ line_of_row (state_in book.now) (job_row (state_in book.now).jobs job) }
+{
+    for place in 0..book.len() {
+        let Some(line) = book.job_at(place) else {
+            return None;
+        };
+        if line.job.0 == job.0 {
+            return Some(line);
+        }
+    }
+    None
+}
+
+/// The listed item of the job at this place, by falling item number.
+pub(crate) fn listed<R: Rig>(book: &Book<ListGraph, R>, job: Job, place: u32) -> Option<Listed>
+    ensures listed { result ≡ listed_at (state_in book.now) job place }
+    ensures numbered { IfSome result (IsNumberedListed book.now.rules) }
+{
+    let _len = book.len();
+    book.listed_at(job, place)
+}

@@ -1,4 +1,0 @@
-pub mod SameGraph
-pub mod Twins
-pub mod Values
-pub mod Union
