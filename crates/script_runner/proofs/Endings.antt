@@ -16,20 +16,20 @@ use Rattle.script_runner.specs.Outcomes.{IsCut}
 use Rattle.script_runner.specs.Worlds.{World, StandsOn, IsHeld, world_of}
 use Rattle.script_runner.proofs.Standing.{rest_held}
 
-pub settled_end : {G R : Type 0} → (may_leave : R → Areas → Type 0) (faults : R → ℕ) (old : Booked G R) (now rig : R) (clock : ℕ) (e : Payloads) (before after : List ℕ) →
-    rig ≡ now → after ≡ before → old.down ≡ false → faults now ≡ faults old.rig → ((c : Areas) → may_leave now c → Settled old.rules old.history c) →
-    RestIn old.rules old.history e (may_leave now) → Settles (world_of old clock e) (faults old.rig) (faults rig) (may_leave rig) before after
-settled_end {G} {R} may_leave faults old now rig clock e before after same text up count settled rests =
-    subst (λ (r : R). Settles (world_of old clock e) (faults old.rig) (faults r) (may_leave r) before after) (sym same)
-    (record { up = up; count = count; text = text; settled = settled; rests = rests })
+pub settled_end : {G R : Type 0} → (may_leave : R → Areas → Type 0) (faults : R → ℕ) (old : Booked G R) (now rig : R) (clock : ℕ) (e : Payloads) →
+    rig ≡ now → old.down ≡ false → faults now ≡ faults old.rig → ((c : Areas) → may_leave now c → Settled old.rules old.history c) →
+    RestIn old.rules old.history e (may_leave now) → Settles (world_of old clock e) (faults old.rig) (faults rig) (may_leave rig)
+settled_end {G} {R} may_leave faults old now rig clock e same up count settled rests =
+    subst (λ (r : R). Settles (world_of old clock e) (faults old.rig) (faults r) (may_leave r)) (sym same)
+    (record { up = up; count = count; settled = settled; rests = rests })
 
-pub down_end : {G R : Type 0} → (may_leave : R → Areas → Type 0) (faults : R → ℕ) (old now : Booked G R) (rig : R) (clock len : ℕ) (e : Payloads) (before after : List ℕ) →
-    rig ≡ now.rig → after ≡ before → WasDown old now len → StandsOn (world_of old clock e) (may_leave old.rig) →
-    StaysDown (world_of old clock e) (faults old.rig) (faults rig) (may_leave rig) before after len
-down_end {G} {R} may_leave faults old now rig clock len e before after same text was stands =
+pub down_end : {G R : Type 0} → (may_leave : R → Areas → Type 0) (faults : R → ℕ) (old now : Booked G R) (rig : R) (clock len : ℕ) (e : Payloads) →
+    rig ≡ now.rig → WasDown old now len → StandsOn (world_of old clock e) (may_leave old.rig) →
+    StaysDown (world_of old clock e) (faults old.rig) (faults rig) (may_leave rig)
+down_end {G} {R} may_leave faults old now rig clock len e same was stands =
     let is : rig ≡ old.rig = same ∙ ap (λ (b : Booked G R). b.rig) was.2 in
-    subst (λ (r : R). StaysDown (world_of old clock e) (faults old.rig) (faults r) (may_leave r) before after len) (sym is)
-    (record { down = was.0; count = refl; length_is = was.1; text = text; held = stands.held was.0 })
+    subst (λ (r : R). StaysDown (world_of old clock e) (faults old.rig) (faults r) (may_leave r)) (sym is)
+    (record { down = was.0; count = refl; held = stands.held was.0 })
 
 pub fell_end : {G R : Type 0} → (may_leave : R → Areas → Type 0) (faults : R → ℕ) (old : Booked G R) (now rig : R) (clock : ℕ) (e : Payloads) → rig ≡ now →
     Legal old.rules old.history → old.down ≡ false → Rose (faults old.rig) (faults now) → RestIn old.rules old.history e (may_leave now) →

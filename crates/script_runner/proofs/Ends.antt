@@ -11,7 +11,7 @@ use Rattle.delf_model.specs.Payloads.{Payloads}
 use Rattle.delf_book.specs.Books.{Booked}
 use Rattle.script_runner.specs.Orders.{Gives, GivesAll}
 use Rattle.script_runner.specs.Serial.{Serves, Script}
-use Rattle.script_runner.specs.Standing.{Carried}
+use Rattle.script_runner.specs.Standing.{Carried, Reached}
 use Rattle.script_runner.specs.Worlds.{World, StandsOn, world_of}
 
 -- one command behind others
@@ -83,13 +83,6 @@ pub orders_more : (commands : List Command) (i : ℕ) (command : Command) (a b c
     GivesAll (take i commands) a l b m → Gives command b m c n → GivesAll (take (i + 1) commands) a l c n
 orders_more commands i command a b c l m n below is given gives =
     subst (λ (cs : List Command). GivesAll cs a l c n) (sym (take_next commands i command below is)) (orders_push (take i commands) command a b c l m n given gives)
-
--- the commands so far: their text, and the world that they lead to, which stands on the disk
-pub record Reached {G R : Type 0} (may_leave : R → Areas → Type 0) (faults : R → ℕ) (schema : Schema) (first : World) (commands : List Command) (start : ℕ)
-    (book : Booked G R) (clock : ℕ) (text : List ℕ) : Type 0 where
-  pub payloads : Payloads
-  pub script : Script schema first commands start (faults book.rig) text (world_of book clock payloads)
-  pub stands : StandsOn (world_of book clock payloads) (may_leave book.rig)
 
 pub none_reached : {G R : Type 0} → (may_leave : R → Areas → Type 0) (faults : R → ℕ) (schema : Schema) (book : Booked G R) (clock : ℕ) (e : Payloads) →
     StandsOn (world_of book clock e) (may_leave book.rig) → Reached may_leave faults schema (world_of book clock e) [] (faults book.rig) book clock []

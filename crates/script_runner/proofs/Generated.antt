@@ -1,7 +1,7 @@
 -- The generated schema is checked, and the commands of a load have type numbers of it.
-use Rattle.std.proofs.Common.{◌≡◌, ℕ, zero, suc, ◌<◌, IsTrue, Option, None, Some, List, [], ◌∷◌, map, refl, sym, ap, subst, inr, arith}
-use Rattle.std.specs.Prelude.{slice_get}
-use Rattle.std.specs.List.{All, flat_map}
+use Rattle.std.proofs.Common.{◌≡◌, ℕ, zero, suc, ◌<◌, IsTrue, Option, None, Some, true, List, [], ◌∷◌, ◌++◌, map, refl, sym, ap, subst, inr, arith}
+use Rattle.std.specs.Prelude.{◌/◌, slice_get}
+use Rattle.std.specs.List.{All, flat_map, filter, range_with_len}
 use Rattle.std.proofs.lemmas.Bool.{false≢true}
 use Rattle.std.proofs.lemmas.List.Elements.{All-nil, All-cons, All-append}
 use Rattle.delf_model.specs.declared.schema.ObjectRule.TheVariants.{Directly, ByAny}
@@ -14,9 +14,9 @@ use Rattle.delf_model.specs.declared.script.Command.TheVariants.{Submit, Work, T
 use Rattle.delf_model.specs.declared.script.Lane.{Lane}
 use Rattle.delf_model.specs.declared.script.LaneCommand.{LaneCommand}
 use Rattle.delf_model.specs.declared.script.LaneCommand.TheVariants as lane
-use Rattle.script_lang.specs.Generated.{generated_schema}
+use Rattle.script_lang.specs.Generated.{generated_schema, generated_script, script_of_groups, restores_of, restored, lane_of, is_in_lane}
 use Rattle.script_lang.specs.TypeNumbers.{LaneCommandNames, LaneNames, CommandNames}
-use Rattle.script_runner.specs.Loads.{made_alone, lane_alone, made_in_turn, load_commands}
+use Rattle.script_runner.specs.Loads.{IsStill, made_alone, lane_alone, block_alone, made_in_turn, load_commands}
 use Rattle.script_runner.specs.Names.{HasNames, IsNumberedCommand}
 use Rattle.script_runner.proofs.Documents.{numbered_commands}
 
@@ -136,3 +136,50 @@ module _ (schema : Schema) where
   load_numbered rules script commands has names is =
       subst (λ (cs : List Command). All (IsNumberedCommand rules) cs) (sym is)
       (numbered_commands schema rules (load_commands script) has (all_lists (CommandNames schema) (CommandNames schema) made_in_turn turn_named script names))
+
+-- a load keeps the store open and gives no order
+
+alone_still : (command : LaneCommand) → IsStill (made_alone command)
+alone_still (lane.Submit asked) = tt
+alone_still (lane.Get id) = tt
+
+lane_still : (lane : Lane) → All IsStill (lane_alone lane)
+lane_still lane = all_made (λ c. Unit {0}) IsStill made_alone (λ c t. alone_still c) lane.commands (λ k d below. tt)
+
+one_still : (command : Command) → IsStill command → All IsStill (command ∷ [])
+one_still command still = All-cons IsStill command [] still (All-nil IsStill)
+
+block_still : (lanes : List Lane) → All IsStill (block_alone lanes)
+block_still lanes =
+    All-append IsStill (flat_map lane_alone lanes) (Work 1000000 ∷ []) (all_lists (λ l. Unit {0}) IsStill lane_alone (λ l t. lane_still l) lanes (λ k d below. tt))
+    (one_still (Work 1000000) tt)
+
+-- a block, or a command that is still
+abbrev IsCalm : Command → Type 0
+IsCalm (Par quiet workers turns lanes) = Unit {0}
+IsCalm other = IsStill other
+
+turn_still : (command : Command) → IsCalm command → All IsStill (made_in_turn command)
+turn_still (Submit asked) calm = one_still (Submit asked) calm
+turn_still (Work n) calm = one_still (Work n) calm
+turn_still (Tick n) calm = one_still (Tick n) calm
+turn_still (Get id) calm = one_still (Get id) calm
+turn_still Show calm = one_still Show calm
+turn_still (Job name) calm = one_still (Job name) calm
+turn_still Jobs calm = one_still Jobs calm
+turn_still Report calm = one_still Report calm
+turn_still (Fail n) calm = absurd calm
+turn_still (Crash pick) calm = absurd calm
+turn_still (Par quiet workers turns lanes) calm = block_still lanes
+
+restores_calm : (groups : ℕ) → All IsCalm (restores_of groups)
+restores_calm groups = all_made (λ group. Unit {0}) IsCalm restored (λ group t. tt) (filter (is_in_lane 0) (range_with_len 0 groups)) (λ k d below. tt)
+
+script_calm : (groups : ℕ) → All IsCalm (script_of_groups groups)
+script_calm groups =
+    All-cons IsCalm (Par true 8 1000000 (map (lane_of groups) (range_with_len 0 8))) (restores_of groups ++ Work 1000000 ∷ []) tt
+    (All-append IsCalm (restores_of groups) (Work 1000000 ∷ []) (restores_calm groups) (All-cons IsCalm (Work 1000000) [] tt (All-nil IsCalm)))
+
+pub load_still : (n : ℕ) (commands : List Command) → commands ≡ load_commands (generated_script n) → All IsStill commands
+load_still n commands is =
+    subst (λ (cs : List Command). All IsStill cs) (sym is) (all_lists IsCalm IsStill made_in_turn turn_still (generated_script n) (script_calm (n / 4)))

@@ -1,6 +1,7 @@
 pub mod Calls
 pub mod Causes
 pub mod Checks
+pub mod Completes
 pub mod Counts
 pub mod Crashes
 pub mod Documents
@@ -9,6 +10,7 @@ pub mod Ends
 pub mod Finds
 pub mod Generated
 pub mod Keeping
+pub mod LoadSteps
 pub mod Loops
 pub mod Moves
 pub mod Nameless

@@ -17,13 +17,12 @@ use Rattle.delf_recovery.specs.declared.fault.OpenFault.{OpenFault}
 use Rattle.delf_recovery.specs.declared.fault.OpenFault.TheVariants as fault
 use Rattle.delf_recovery.specs.Opening.{StandsNow, IsNotBad, IsBadAt}
 use Rattle.job_report.specs.Texts.{down_text}
-use Rattle.script_runner.specs.declared.document.Document.{Document}
 use Rattle.script_runner.specs.declared.status.Status.{Status}
 use Rattle.script_runner.specs.declared.status.Status.TheVariants.{Done, Usage, BadDocument, ReadFault, WriteFault, OutOfMemory, Down, BadStore}
 use Rattle.script_runner.specs.Endings.{UnopenedText, UnopenedCause}
 use Rattle.script_runner.specs.Openings.{CountsOpen, StopCounts}
 use Rattle.script_runner.specs.Orders.{GivesAll}
-use Rattle.script_runner.specs.Outcomes.{ScriptCause, ScriptText, DocumentText, RunsScript, StillStands, IsBad, IsCut, OrdersMade, IsMade, bad_text}
+use Rattle.script_runner.specs.Outcomes.{ScriptCause, OpenedText, RunsFrom, StillStands, IsBad, IsCut, OrdersMade, IsMade, bad_text}
 use Rattle.script_runner.specs.Worlds.{World, StandsOn, Opens, world_of}
 use Rattle.script_runner.proofs.Crashes.{Found}
 use Rattle.script_runner.proofs.Ends.{orders_none}
@@ -48,16 +47,17 @@ found_opens rules seen book clock moment rules_are up alone clock_is now = recor
   stands = now.stand;
 }
 
-pub ran_document : (document : Document) (moment : ℕ) (seen : Areas) (old : Areas → Type 0) (start now : ℕ) (images : Areas → Type 0) (before after : List ℕ) (status : Status) →
-    RunsScript document moment seen start now images before after status → DocumentText document moment seen old start now images before after status
-ran_document document moment seen old start now images before after Done runs = runs
-ran_document document moment seen old start now images before after Usage runs = runs
-ran_document document moment seen old start now images before after (BadDocument line) runs = runs
-ran_document document moment seen old start now images before after ReadFault runs = runs
-ran_document document moment seen old start now images before after (WriteFault done) runs = inr runs
-ran_document document moment seen old start now images before after (OutOfMemory done) runs = inr runs
-ran_document document moment seen old start now images before after (Down len) runs = inr runs
-ran_document document moment seen old start now images before after (BadStore area at) runs = absurd (runs.text)
+pub ran_opened : (rules : RuleSet) (moment : ℕ) (seen : Areas) (old : Areas → Type 0) (start now : ℕ) (images : Areas → Type 0) (before after : List ℕ) (runs : World → Status → Type 0) (status : Status) →
+    ((w : World) (area : Area) (at : ℕ) → runs w (BadStore area at) → ⊥) → RunsFrom rules moment seen (λ w. runs w status) →
+    OpenedText rules moment seen old start now images before after runs status
+ran_opened rules moment seen old start now images before after runs Done never ran = ran
+ran_opened rules moment seen old start now images before after runs Usage never ran = ran
+ran_opened rules moment seen old start now images before after runs (BadDocument line) never ran = ran
+ran_opened rules moment seen old start now images before after runs ReadFault never ran = ran
+ran_opened rules moment seen old start now images before after runs (WriteFault done) never ran = inr ran
+ran_opened rules moment seen old start now images before after runs (OutOfMemory done) never ran = inr ran
+ran_opened rules moment seen old start now images before after runs (Down len) never ran = inr ran
+ran_opened rules moment seen old start now images before after runs (BadStore area at) never ran = absurd (never ran.first area at ran.text)
 
 pub cause_by : (write_rose rose rose' : Type 0) (bad bad' : Area → ℕ → Type 0) (status : Status) → (rose → rose') → ((area : Area) (at : ℕ) → bad area at → bad' area at) →
     ScriptCause write_rose rose bad status → ScriptCause write_rose rose' bad' status
@@ -84,24 +84,24 @@ bad_is rules seen it area at is bad never = record {
   stands_not = subst (λ (f : OpenFault). (history : List Entry) (e : Payloads) → AreEntries history → StandBut rules history e seen → IsNotBad f) is never;
 }
 
-pub unopened_text : (document : Document) (moment : ℕ) (seen : Areas) (old : Areas → Type 0) (start now : ℕ) (images : Areas → Type 0) (before after : List ℕ) (it : OpenFault)
-    (write_rose : Type 0) (status : Status) → StopCounts start now it → StillStands document.rules seen old images → IsBadAt document.rules seen it →
-    ((history : List Entry) (e : Payloads) → AreEntries history → StandBut document.rules history e seen → IsNotBad it) → UnopenedText it before after status →
-    UnopenedCause it 0 write_rose status → DocumentText document moment seen old start now images before after status
-unopened_text document moment seen old start now images before after it write_rose Done counts still bad never text cause = absurd text
-unopened_text document moment seen old start now images before after it write_rose Usage counts still bad never text cause = absurd text
-unopened_text document moment seen old start now images before after it write_rose (BadDocument line) counts still bad never text cause = absurd text
-unopened_text document moment seen old start now images before after it write_rose ReadFault counts still bad never text cause = absurd text
-unopened_text document moment seen old start now images before after fault.DiskFault write_rose (WriteFault done) counts still bad never text cause =
+pub unopened_text : (rules : RuleSet) (moment : ℕ) (seen : Areas) (old : Areas → Type 0) (start now : ℕ) (images : Areas → Type 0) (before after : List ℕ) (runs : World → Status → Type 0) (it : OpenFault)
+    (write_rose : Type 0) (status : Status) → StopCounts start now it → StillStands rules seen old images → IsBadAt rules seen it →
+    ((history : List Entry) (e : Payloads) → AreEntries history → StandBut rules history e seen → IsNotBad it) → UnopenedText it before after status →
+    UnopenedCause it 0 write_rose status → OpenedText rules moment seen old start now images before after runs status
+unopened_text rules moment seen old start now images before after runs it write_rose Done counts still bad never text cause = absurd text
+unopened_text rules moment seen old start now images before after runs it write_rose Usage counts still bad never text cause = absurd text
+unopened_text rules moment seen old start now images before after runs it write_rose (BadDocument line) counts still bad never text cause = absurd text
+unopened_text rules moment seen old start now images before after runs it write_rose ReadFault counts still bad never text cause = absurd text
+unopened_text rules moment seen old start now images before after runs fault.DiskFault write_rose (WriteFault done) counts still bad never text cause =
     inl (cause.0, inl (text, counts.failed refl, still))
-unopened_text document moment seen old start now images before after fault.OutOfMemory write_rose (WriteFault done) counts still bad never text cause = absurd (cause.2 refl)
-unopened_text document moment seen old start now images before after (fault.BadStore area at) write_rose (WriteFault done) counts still bad never text cause =
-    inl (cause.0, inr (area, (at, (bad_is document.rules seen (fault.BadStore area at) area at refl bad never, text))))
-unopened_text document moment seen old start now images before after it write_rose (OutOfMemory done) counts still bad never text cause = inl (cause, text, still)
-unopened_text document moment seen old start now images before after it write_rose (Down len) counts still bad never text cause =
+unopened_text rules moment seen old start now images before after runs fault.OutOfMemory write_rose (WriteFault done) counts still bad never text cause = absurd (cause.2 refl)
+unopened_text rules moment seen old start now images before after runs (fault.BadStore area at) write_rose (WriteFault done) counts still bad never text cause =
+    inl (cause.0, inr (area, (at, (bad_is rules seen (fault.BadStore area at) area at refl bad never, text))))
+unopened_text rules moment seen old start now images before after runs it write_rose (OutOfMemory done) counts still bad never text cause = inl (cause, text, still)
+unopened_text rules moment seen old start now images before after runs it write_rose (Down len) counts still bad never text cause =
     inl (cause.1, counts.failed cause.0, text, still)
-unopened_text document moment seen old start now images before after it write_rose (BadStore area at) counts still bad never text cause =
-    (bad_is document.rules seen it area at cause bad never, text)
+unopened_text rules moment seen old start now images before after runs it write_rose (BadStore area at) counts still bad never text cause =
+    (bad_is rules seen it area at cause bad never, text)
 
 no_order_made : (it : OpenFault) (all : ℕ) (write_rose : Type 0) (status : Status) → UnopenedCause it 0 write_rose status → IsMade status 0 all
 no_order_made it all write_rose Done cause = absurd cause

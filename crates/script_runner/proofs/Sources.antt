@@ -11,7 +11,7 @@ use Rattle.script_runner.specs.declared.status.Status.TheVariants.{Done, Usage, 
 use Rattle.script_runner.specs.declared.document.Document.{Document}
 use Rattle.script_runner.specs.Documents.{IsDocument, IsFault, TooLong, InPart, InCheck, InScript, IsToldFault}
 use Rattle.script_runner.proofs.ReadBytes.{all_read, lift_fault}
-use Rattle.script_runner.specs.Outcomes.{OfDocument, TellsFault, CutsFault, HasFault, FaultText, FaultCause, BytesText, BytesCause, SourceText, SourceCause, ScriptCause, OrdersOf, OrdersMade, Untouched}
+use Rattle.script_runner.specs.Outcomes.{OfDocument, TellsFault, CutsFault, HasFault, FaultText, FaultCause, BytesText, BytesCause, SourceText, SourceCause, ScriptCause, OrdersOf, OrdersMade, Untouched, ReadsAll}
 
 lift_of : (left read rest : List ℕ) (P : Document → Type 0) → left ≡ read ++ rest → (length read < 16777217 → rest ≡ []) → OfDocument read P → OfDocument left P
 lift_of left read rest P whole short of =
@@ -167,3 +167,13 @@ fault_orders bytes fault a l write_rose (WriteFault done) cause = inl (refl, ref
 fault_orders bytes fault a l write_rose (OutOfMemory done) cause = inl (refl, refl)
 fault_orders bytes fault a l write_rose (Down len) cause = inl (refl, refl)
 fault_orders bytes fault a l write_rose (BadStore area at) cause = inl (refl, refl)
+
+pub reads_all : (left read rest : List ℕ) (status : Status) → left ≡ read ++ rest → (length read < 16777217 → rest ≡ []) → ReadsAll left rest status
+reads_all left read rest Done whole short = (read, (whole, short))
+reads_all left read rest Usage whole short = (read, (whole, short))
+reads_all left read rest (BadDocument line) whole short = (read, (whole, short))
+reads_all left read rest ReadFault whole short = tt
+reads_all left read rest (WriteFault done) whole short = (read, (whole, short))
+reads_all left read rest (OutOfMemory done) whole short = tt
+reads_all left read rest (Down len) whole short = (read, (whole, short))
+reads_all left read rest (BadStore area at) whole short = (read, (whole, short))

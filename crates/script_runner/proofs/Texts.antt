@@ -17,12 +17,12 @@ use Rattle.script_runner.specs.declared.status.Status.{Status}
 use Rattle.script_runner.specs.declared.status.Status.TheVariants.{Done, Usage, BadDocument, ReadFault, WriteFault, OutOfMemory, Down, BadStore}
 use Rattle.script_runner.specs.Endings.{EndText, UnopenedText, UnopenedCause, unopened_line}
 use Rattle.script_runner.specs.Openings.{Stops, StopCounts}
-use Rattle.script_runner.specs.Outcomes.{IsCut, Ran, IsWhole, IsCutScript, IsStarved, IsDown, ScriptText, HasSound}
+use Rattle.script_runner.specs.Outcomes.{IsCut, Ran, IsWhole, IsCutScript, Starves, IsStarved, IsDown, ScriptText, HasSound}
 use Rattle.script_runner.specs.Outcomes as outcome
 use Rattle.script_runner.specs.Serial.{Serves, Script}
-use Rattle.script_runner.specs.Standing.{Carried, HaltedAt}
+use Rattle.script_runner.specs.Standing.{Carried, HaltedAt, Reached}
 use Rattle.script_runner.specs.Worlds.{World, StandsOn, IsHeld, world_of}
-use Rattle.script_runner.proofs.Ends.{Reached, none_reached, more_reached, got}
+use Rattle.script_runner.proofs.Ends.{none_reached, more_reached, got}
 use Rattle.script_runner.proofs.Standing.{stands_held}
 
 -- the commands so far, and what the sink holds of their text
@@ -46,16 +46,25 @@ cut_from held at after line is cut = subst (λ (t : List ℕ). IsCut t after lin
 
 -- memory was wanting in the next command, or after all of them
 
+-- in a command: the disk stands for a world where it may leave it
+abbrev pub starved_in : {G R : Type 0} → (may_leave : R → Areas → Type 0) (faults : R → ℕ) (schema : Schema) (first : World) (commands : List Command) (start i : ℕ) (command : Command)
+    (book : Booked G R) (clock : ℕ) (rig : R) (text : List ℕ) → i < length commands → command ≡ get_or commands i command →
+    (r : Reached may_leave faults schema first (take i commands) start book clock text) → HaltedAt command (world_of book clock r.payloads) (may_leave rig) →
+    Starves schema first commands start (may_leave rig) i
+starved_in may_leave faults schema first commands start i command book clock rig text below is r halted = record {
+  ran = ran_of may_leave faults schema first (take i commands) start book clock text r;
+  next = halted.next;
+  halts = inr (command, (got commands i command below is, halted.halts));
+  held = halted.held;
+}
+
 starved : {G R : Type 0} → (may_leave : R → Areas → Type 0) (faults : R → ℕ) (schema : Schema) (first : World) (commands : List Command) (start i : ℕ) (command : Command)
     (book : Booked G R) (clock : ℕ) (rig : R) (told : Type 0) (before held after : List ℕ) → told → i < length commands → command ≡ get_or commands i command →
     (s : SoFar may_leave faults schema first (take i commands) start book clock told before held) → after ≡ held →
     HaltedAt command (world_of book clock s.reached.payloads) (may_leave rig) → IsStarved schema first commands start (may_leave rig) before after i
 starved may_leave faults schema first commands start i command book clock rig told before held after tell below is s same halted = record {
-  ran = ran_of may_leave faults schema first (take i commands) start book clock s.text s.reached;
+  starves = starved_in may_leave faults schema first commands start i command book clock rig s.text below is s.reached halted;
   text = same ∙ s.put tell;
-  next = halted.next;
-  halts = inr (command, (got commands i command below is, halted.halts));
-  held = halted.held;
 }
 
 -- an opening in a crash was not answered Ok
@@ -80,11 +89,13 @@ stopped may_leave faults schema first commands start i n command book clock rig 
     absurd (stops s.reached.stands)
 stopped may_leave faults schema first commands start i n command book clock rig told before held after fault.DiskFault write_rose (OutOfMemory m) tell n_is below is s stops counts text cause =
     subst (λ (k : ℕ). IsStarved schema first commands start (may_leave rig) before after k) (sym (cause ∙ n_is)) (record {
-      ran = ran_of may_leave faults schema first (take i commands) start book clock s.text s.reached;
+      starves = record {
+        ran = ran_of may_leave faults schema first (take i commands) start book clock s.text s.reached;
+        next = world_of book clock s.reached.payloads;
+        halts = inl refl;
+        held = (stops s.reached.stands).1;
+      };
       text = text ∙ s.put tell;
-      next = world_of book clock s.reached.payloads;
-      halts = inl refl;
-      held = (stops s.reached.stands).1;
     })
 stopped may_leave faults schema first commands start i n command book clock rig told before held after fault.OutOfMemory write_rose (OutOfMemory m) tell n_is below is s stops counts text cause =
     subst (λ (k : ℕ). IsStarved schema first commands start (may_leave rig) before after k) (sym (cause ∙ n_is))
@@ -128,12 +139,12 @@ pub ended : {G R : Type 0} → (may_leave : R → Areas → Type 0) (faults : R 
     ScriptText schema first commands start (faults rig) (may_leave rig) before after status
 ended may_leave faults schema first commands start n book clock rig told before held after Done tell n_is all legal sound s text = record {
   ran = ran_of may_leave faults schema first commands start book clock s.text s.reached;
-  count = text.count;
-  up = text.up;
-  text = text.text ∙ s.put tell;
+  count = text.0.count;
+  up = text.0.up;
+  text = text.1 ∙ s.put tell;
   history = record { legal = legal; sound = sound };
-  settled = text.settled;
-  rests = text.rests;
+  settled = text.0.settled;
+  rests = text.0.rests;
 }
 ended may_leave faults schema first commands start n book clock rig told before held after Usage tell n_is all legal sound s text = text
 ended may_leave faults schema first commands start n book clock rig told before held after (BadDocument line) tell n_is all legal sound s text = text
@@ -143,20 +154,22 @@ ended may_leave faults schema first commands start n book clock rig told before 
     (cut_from held (before ++ s.text) after (down_text (length book.history)) (s.put tell) text.2) text.1.held
 ended {G} {R} may_leave faults schema first commands start n book clock rig told before held after (OutOfMemory m) tell n_is all legal sound s text =
     subst (λ (k : ℕ). IsStarved schema first commands start (may_leave rig) before after k) (sym text.0) (record {
-      ran = record {
-        text = s.text;
-        now = faults book.rig;
-        last = world_of book clock s.reached.payloads;
-        script = subst (λ (cs : List Command). Script schema first cs start (faults book.rig) s.text (world_of book clock s.reached.payloads)) (sym all) s.reached.script;
+      starves = record {
+        ran = record {
+          text = s.text;
+          now = faults book.rig;
+          last = world_of book clock s.reached.payloads;
+          script = subst (λ (cs : List Command). Script schema first cs start (faults book.rig) s.text (world_of book clock s.reached.payloads)) (sym all) s.reached.script;
+        };
+        next = world_of book clock s.reached.payloads;
+        halts = inl refl;
+        held = text.1;
       };
       text = text.2 ∙ s.put tell;
-      next = world_of book clock s.reached.payloads;
-      halts = inl refl;
-      held = text.1;
     })
 ended may_leave faults schema first commands start n book clock rig told before held after (Down len) tell n_is all legal sound s text =
     elim text [
-      | inl d ↦ outcome.IsDown.AtEnd (ran_of may_leave faults schema first commands start book clock s.text s.reached) d.count d.down d.length_is (d.text ∙ s.put tell) d.held
+      | inl d ↦ outcome.IsDown.AtEnd (ran_of may_leave faults schema first commands start book clock s.text s.reached) d.0.count d.0.down d.1 (d.2 ∙ s.put tell) d.0.held
       | inr f ↦ outcome.IsDown.InSettling (ran_of may_leave faults schema first commands start book clock s.text s.reached) f.0.rose f.0.up f.1
           (f.2 ∙ ap (λ (t : List ℕ). t ++ down_text len) (s.put tell)) f.0.held
     ]

@@ -8,7 +8,8 @@ use Rattle.delf_model.specs.declared.ids.JobName.{JobName}
 use Rattle.delf_model.specs.declared.call.JobLine.{JobLine}
 use Rattle.delf_model.specs.State.{State, JobRow, find_job}
 use Rattle.delf_model.specs.Report.{job_line, line_of_row, listed_from}
-use Rattle.job_report.specs.Texts.{job_text, no_job_text, jobs_text, report_text, found_text, object_text, edge_text}
+use Rattle.job_report.specs.Texts.{job_text, no_job_text, jobs_text, report_text, found_text, object_text, edge_text, load_text}
+use Rattle.script_runner.specs.Loads.{restored_count, loaded_line}
 use Rattle.script_runner.specs.Serial.{row_lines, row_named, job_lines, job_text_of, jobs_lines, report_line, listed_line}
 
 told : (schema : Schema) (s : State) (name : JobName) (o : Option JobRow) (line : JobLine) (text : List ℕ) → Some line ≡ line_of_row s o →
@@ -52,6 +53,18 @@ report_told s objects edges lines o e h text objects_are edges_are lines_are o_i
     ∙ ap (λ (n : ℕ). report_text (length s.graph.objects) n h lines) (e_is ∙ ap length edges_are)
     ∙ ap (λ (n : ℕ). report_text (length s.graph.objects) (length s.graph.edges) n lines) h_is
     ∙ ap (report_text (length s.graph.objects) (length s.graph.edges) s.len) lines_are
+
+-- a load
+
+pub load_told : (n : ℕ) (s : State) (objects : List ObjectRow) (edges : List EdgeRow) (lines : List JobLine) (o e h j r : ℕ) (text : List ℕ) →
+    objects ≡ s.graph.objects → edges ≡ s.graph.edges → lines ≡ map (job_line s) s.jobs → o ≡ length objects → e ≡ length edges → h ≡ s.len →
+    j ≡ length lines → r ≡ restored_count lines → text ≡ load_text n o e h j r → text ≡ loaded_line n s
+load_told n s objects edges lines o e h j r text objects_are edges_are lines_are o_is e_is h_is j_is r_is said =
+    said ∙ ap (λ (x : ℕ). load_text n x e h j r) (o_is ∙ ap length objects_are)
+    ∙ ap (λ (x : ℕ). load_text n (length s.graph.objects) x h j r) (e_is ∙ ap length edges_are)
+    ∙ ap (λ (x : ℕ). load_text n (length s.graph.objects) (length s.graph.edges) x j r) h_is
+    ∙ ap (λ (x : ℕ). load_text n (length s.graph.objects) (length s.graph.edges) s.len x r) (j_is ∙ ap length lines_are ∙ length-map s.jobs (job_line s))
+    ∙ ap (λ (x : ℕ). load_text n (length s.graph.objects) (length s.graph.edges) s.len (length s.jobs) x) (r_is ∙ ap restored_count lines_are)
 
 -- lines with parts that are told
 

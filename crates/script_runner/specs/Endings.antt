@@ -48,33 +48,33 @@ DownCause len done write_rose status = ⊥
 
 -- sink and disk after the last settling, by the world after so many commands
 
-pub record Settles (w : World) (start now : ℕ) (images : Areas → Type 0) (before after : List ℕ) : Type 0 where
+-- it was settled
+pub record Settles (w : World) (start now : ℕ) (images : Areas → Type 0) : Type 0 where
   pub up : w.down ≡ false
   pub count : now ≡ start
-  pub text : after ≡ before
   pub settled : (c : Areas) → images c → Settled w.rules w.history c
   pub rests : RestIn w.rules w.history w.payloads images
 
-pub record StaysDown (w : World) (start now : ℕ) (images : Areas → Type 0) (before after : List ℕ) (len : ℕ) : Type 0 where
+-- it was down before the settling
+pub record StaysDown (w : World) (start now : ℕ) (images : Areas → Type 0) : Type 0 where
   pub down : w.down ≡ true
   pub count : now ≡ start
-  pub length_is : len ≡ length w.history
-  pub text : after ≡ before
   pub held : IsHeld w images
 
--- the settling met a disk fault, and this was to be put
+-- the settling met a disk fault
 pub record FallsAtEnd (w : World) (start now : ℕ) (images : Areas → Type 0) : Type 0 where
   pub up : w.down ≡ false
   pub rose : Rose start now
   pub held : IsHeld w images
 
+-- a script puts a line for the fault that the settling met alone
 abbrev pub EndText : World → ℕ → ℕ → ℕ → (Areas → Type 0) → List ℕ → List ℕ → Status → Type 0
-EndText w done start now images before after Done = Settles w start now images before after
+EndText w done start now images before after Done = Settles w start now images × (after ≡ before)
 EndText w done start now images before after (WriteFault n) =
     (n ≡ done) × FallsAtEnd w start now images × IsCut before after (down_text (length w.history))
 EndText w done start now images before after (OutOfMemory n) = (n ≡ done) × IsHeld w images × (after ≡ before)
 EndText w done start now images before after (Down len) =
-    StaysDown w start now images before after len
+    (StaysDown w start now images × (len ≡ length w.history) × (after ≡ before))
     ⊎ (FallsAtEnd w start now images × (len ≡ length w.history) × (after ≡ before ++ down_text len))
 EndText w done start now images before after status = ⊥
 

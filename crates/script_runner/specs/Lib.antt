@@ -1,8 +1,10 @@
 pub mod Checks
 pub mod Codes
+pub mod Complete
 pub mod Documents
 pub mod Endings
 pub mod Lines
+pub mod LoadEnds
 pub mod Loads
 pub mod Names
 pub mod Openings

@@ -45,6 +45,13 @@ made_in_turn (Par quiet workers turns lanes) = block_alone lanes
 abbrev pub load_commands : List Command → List Command
 load_commands script = flat_map made_in_turn script
 
+-- a command that keeps the store open and gives its disk no order
+abbrev pub IsStill : Command → Type 0
+IsStill (Fail n) = ⊥
+IsStill (Crash pick) = ⊥
+IsStill (Par quiet workers turns lanes) = ⊥
+IsStill other = Unit {0}
+
 -- what a load of so many objects makes, as a document would say it
 pub record IsLoad (n : ℕ) (document : Document) : Type 0 where
   pub schema : document.schema ≡ generated_schema

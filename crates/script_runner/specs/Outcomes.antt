@@ -31,6 +31,7 @@ use Rattle.script_runner.specs.declared.words.Request.TheVariants.{Run, Check, L
 use Rattle.script_runner.specs.declared.document.Document.{Document}
 use Rattle.script_runner.specs.Documents.{IsDocument, IsFault}
 use Rattle.script_runner.specs.Checks.{CheckText, CheckCause}
+use Rattle.script_runner.specs.Loads.{IsLoad}
 use Rattle.script_runner.specs.Orders.{GivesAll}
 use Rattle.script_runner.specs.Requests.{moment_of_start}
 use Rattle.script_runner.specs.Serial.{Serves, Script, Halts}
@@ -81,13 +82,17 @@ pub data IsCutScript (schema : Schema) (first : World) (commands : List Command)
       IsCut (before ++ ran.text) after (down_text (length ran.last.history)) → IsHeld ran.last images →
       IsCutScript schema first commands start now images before after done
 
--- memory was wanting after the first `done` commands: the disk stands for the world after them, or for it with some of the next one
-pub record IsStarved (schema : Schema) (first : World) (commands : List Command) (start : ℕ) (images : Areas → Type 0) (before after : List ℕ) (done : ℕ) : Type 0 where
+-- the first `done` commands were made, and the disk stands for the world after them, or for it with some of the next one
+pub record Starves (schema : Schema) (first : World) (commands : List Command) (start : ℕ) (images : Areas → Type 0) (done : ℕ) : Type 0 where
   pub ran : Ran schema first (take done commands) start
-  pub text : after ≡ before ++ ran.text
   pub next : World
   pub halts : (next ≡ ran.last) ⊎ ((command : Command) × ((slice_get commands done ≡ Some command) × Halts command ran.last next))
   pub held : IsHeld next images
+
+-- memory was wanting after the first `done` commands, whose lines were put
+pub record IsStarved (schema : Schema) (first : World) (commands : List Command) (start : ℕ) (images : Areas → Type 0) (before after : List ℕ) (done : ℕ) : Type 0 where
+  pub starves : Starves schema first commands start images done
+  pub text : after ≡ before ++ starves.ran.text
 
 -- the store was down after all commands, or the last settling or an opening met a disk fault
 pub data IsDown (schema : Schema) (first : World) (commands : List Command) (start now : ℕ) (images : Areas → Type 0) (before after : List ℕ) (len : ℕ) : Type 0 where
@@ -124,40 +129,50 @@ StillStands rules seen first images =
     (history : List Entry) (e : Payloads) → AreEntries history → StandBut rules history e seen → (c : Areas) → images c →
     first c ⊎ StandBut rules history e c
 
--- the opening found this world, and sink and disk are as the commands leave them
-pub record RunsScript (document : Document) (moment : ℕ) (seen : Areas) (start now : ℕ) (images : Areas → Type 0) (before after : List ℕ)
-    (status : Status) : Type 0 where
+-- the opening found a world, of which this holds
+pub record RunsFrom (rules : RuleSet) (moment : ℕ) (seen : Areas) (runs : World → Type 0) : Type 0 where
   pub first : World
-  pub opens : Opens document.rules moment seen first
-  pub text : ScriptText document.schema first document.commands start now images before after status
+  pub opens : Opens rules moment seen first
+  pub text : runs first
 
 -- a line of the first opening did not go out whole
-abbrev pub CutsOpening : Document → Areas → (Areas → Type 0) → ℕ → ℕ → (Areas → Type 0) → List ℕ → List ℕ → Type 0
-CutsOpening document seen first start now images before after =
-    (IsCut before after (down_text 0) × Rose start now × StillStands document.rules seen first images)
-    ⊎ ((area : Area) × ((at : ℕ) × (IsBad document.rules seen area at × IsCut before after (bad_text area at))))
+abbrev pub CutsOpening : RuleSet → Areas → (Areas → Type 0) → ℕ → ℕ → (Areas → Type 0) → List ℕ → List ℕ → Type 0
+CutsOpening rules seen first start now images before after =
+    (IsCut before after (down_text 0) × Rose start now × StillStands rules seen first images)
+    ⊎ ((area : Area) × ((at : ℕ) × (IsBad rules seen area at × IsCut before after (bad_text area at))))
 
--- sink and disk after a document was accepted, by the bytes that read and the images at the start, the counts of faults, and
--- the images at the end
+-- sink and disk after a store was to be opened, by the bytes that read and the images at the start, the counts of faults, and
+-- the images at the end; `runs` is said of the world that was found
+abbrev pub OpenedText : RuleSet → ℕ → Areas → (Areas → Type 0) → ℕ → ℕ → (Areas → Type 0) → List ℕ → List ℕ → (World → Status → Type 0) → Status → Type 0
+OpenedText rules moment seen first start now images before after runs (WriteFault done) =
+    ((done ≡ 0) × CutsOpening rules seen first start now images before after)
+    ⊎ RunsFrom rules moment seen (λ w. runs w (WriteFault done))
+OpenedText rules moment seen first start now images before after runs (OutOfMemory done) =
+    ((done ≡ 0) × (after ≡ before) × StillStands rules seen first images)
+    ⊎ RunsFrom rules moment seen (λ w. runs w (OutOfMemory done))
+OpenedText rules moment seen first start now images before after runs (Down len) =
+    ((len ≡ 0) × Rose start now × (after ≡ before ++ down_text 0) × StillStands rules seen first images)
+    ⊎ RunsFrom rules moment seen (λ w. runs w (Down len))
+OpenedText rules moment seen first start now images before after runs (BadStore area at) =
+    IsBad rules seen area at × (after ≡ before ++ bad_text area at)
+OpenedText rules moment seen first start now images before after runs status = RunsFrom rules moment seen (λ w. runs w status)
+
+-- sink and disk after a document was accepted
 abbrev pub DocumentText : Document → ℕ → Areas → (Areas → Type 0) → ℕ → ℕ → (Areas → Type 0) → List ℕ → List ℕ → Status → Type 0
-DocumentText document moment seen first start now images before after (WriteFault done) =
-    ((done ≡ 0) × CutsOpening document seen first start now images before after)
-    ⊎ RunsScript document moment seen start now images before after (WriteFault done)
-DocumentText document moment seen first start now images before after (OutOfMemory done) =
-    ((done ≡ 0) × (after ≡ before) × StillStands document.rules seen first images)
-    ⊎ RunsScript document moment seen start now images before after (OutOfMemory done)
-DocumentText document moment seen first start now images before after (Down len) =
-    ((len ≡ 0) × Rose start now × (after ≡ before ++ down_text 0) × StillStands document.rules seen first images)
-    ⊎ RunsScript document moment seen start now images before after (Down len)
-DocumentText document moment seen first start now images before after (BadStore area at) =
-    IsBad document.rules seen area at × (after ≡ before ++ bad_text area at)
 DocumentText document moment seen first start now images before after status =
-    RunsScript document moment seen start now images before after status
+    OpenedText document.rules moment seen first start now images before after
+    (λ w it. ScriptText document.schema w document.commands start now images before after it) status
 
 -- these bytes are some document, of which this holds
 pub record OfDocument (bytes : List ℕ) (P : Document → Type 0) : Type 0 where
   pub document : Document
   pub read : IsDocument bytes document
+  pub holds : P document
+
+-- what a load of n objects makes is some document, of which this holds
+pub record OfLoad (n : ℕ) (P : Document → Type 0) : Type 0 where
+  pub document : Document
+  pub load : IsLoad n document
   pub holds : P document
 
 -- a line before the first command that did not go out whole
@@ -228,12 +243,18 @@ SourceText told left runs before after Usage = ⊥
 SourceText told left runs before after ReadFault = after ≡ before
 SourceText told left runs before after status = IsTrue told → BytesText left runs before after status
 
--- the sink after a run, by what its words ask for, if they are a command, and the clock's last answer; a load is not served yet
-abbrev pub RunText : Option Request → ℕ → Bool → List ℕ → (ℕ → Document → Status → Type 0) → List ℕ → List ℕ → Status → Type 0
-RunText None answer told left runs before after status = UsageText before after status
-RunText (Some (Run start)) answer told left runs before after status = SourceText told left (runs (moment_of_start start answer)) before after status
-RunText (Some Check) answer told left runs before after status = CheckText told left before after status
-RunText (Some (Load n)) answer told left runs before after status = UsageText before after status
+-- the sink after a load; memory may be wanting before its document is made
+abbrev pub LoadedText : ℕ → (Document → Status → Type 0) → List ℕ → List ℕ → Status → Type 0
+LoadedText n loads before after (OutOfMemory done) = ((done ≡ 0) × (after ≡ before)) ⊎ OfLoad n (λ document. loads document (OutOfMemory done))
+LoadedText n loads before after status = OfLoad n (λ document. loads document status)
+
+-- the sink after a run, by what its words ask for, if they are a command, and the clock's last answer; `runs` is said of a document
+-- that was read, and `loads` of one that a load makes
+abbrev pub RunText : Option Request → ℕ → Bool → List ℕ → (ℕ → Document → Status → Type 0) → (ℕ → ℕ → Document → Status → Type 0) → List ℕ → List ℕ → Status → Type 0
+RunText None answer told left runs loads before after status = UsageText before after status
+RunText (Some (Run start)) answer told left runs loads before after status = SourceText told left (runs (moment_of_start start answer)) before after status
+RunText (Some Check) answer told left runs loads before after status = CheckText told left before after status
+RunText (Some (Load n)) answer told left runs loads before after status = LoadedText n (loads n answer) before after status
 
 -- these bytes are not run, and the fault has this line
 pub record HasFault (bytes : List ℕ) (line : ℕ) : Type 0 where
@@ -278,12 +299,24 @@ SourceCause told left read_rose write_rose rig_rose bad (OutOfMemory done) = Uni
 SourceCause told left read_rose write_rose rig_rose bad (Down len) = rig_rose × (IsTrue told → OfDocument left (λ document. rig_rose))
 SourceCause told left read_rose write_rose rig_rose bad (BadStore area at) = IsTrue told → OfDocument left (λ document. bad document.rules area at)
 
+-- why a load ended so; it is one command
+abbrev pub LoadCause : Type 0 → Type 0 → (Area → ℕ → Type 0) → Status → Type 0
+LoadCause write_rose rig_rose bad Done = Unit {0}
+LoadCause write_rose rig_rose bad Usage = ⊥
+LoadCause write_rose rig_rose bad (BadDocument line) = ⊥
+LoadCause write_rose rig_rose bad ReadFault = ⊥
+LoadCause write_rose rig_rose bad (WriteFault done) = (done ≡ 0) × write_rose
+LoadCause write_rose rig_rose bad (OutOfMemory done) = done ≡ 0
+LoadCause write_rose rig_rose bad (Down len) = rig_rose
+LoadCause write_rose rig_rose bad (BadStore area at) = bad area at
+
 -- why a run ended so, whatever the sink tells; of want of memory nothing is said but that the words were a command
 abbrev pub RunCause : Option Request → Bool → List ℕ → Type 0 → Type 0 → Type 0 → (RuleSet → Area → ℕ → Type 0) → Status → Type 0
 RunCause None told left read_rose write_rose rig_rose bad status = UsageCause write_rose status
 RunCause (Some (Run start)) told left read_rose write_rose rig_rose bad status = SourceCause told left read_rose write_rose rig_rose bad status
 RunCause (Some Check) told left read_rose write_rose rig_rose bad status = CheckCause told left read_rose write_rose status
-RunCause (Some (Load n)) told left read_rose write_rose rig_rose bad status = UsageCause write_rose status
+RunCause (Some (Load n)) told left read_rose write_rose rig_rose bad status =
+    LoadCause write_rose rig_rose (λ area at. OfLoad n (λ document. bad document.rules area at)) status
 
 -- where nothing was run no disk call was made, and no order was given
 abbrev pub Untouched : Type 0 → Status → Type 0
@@ -292,12 +325,32 @@ Untouched same (BadDocument line) = same
 Untouched same ReadFault = same
 Untouched same status = Unit {0}
 
--- a run alone makes disk calls
+-- a run and a load alone make disk calls
 abbrev pub UntouchedBy : Option Request → Type 0 → Status → Type 0
 UntouchedBy None same status = same
 UntouchedBy (Some (Run start)) same status = Untouched same status
 UntouchedBy (Some Check) same status = same
-UntouchedBy (Some (Load n)) same status = same
+UntouchedBy (Some (Load n)) same status = Untouched same status
+
+-- what was read is all that the source had left, or as many bytes as no document has; reading itself may have ended the run
+abbrev pub ReadsAll : List ℕ → List ℕ → Status → Type 0
+ReadsAll left rest ReadFault = Unit {0}
+ReadsAll left rest (OutOfMemory done) = Unit {0}
+ReadsAll left rest status = (read : List ℕ) × ((left ≡ read ++ rest) × (length read < 16777217 → rest ≡ []))
+
+-- a run and a check read the source
+abbrev pub ReadsAllBy : Option Request → List ℕ → List ℕ → Status → Type 0
+ReadsAllBy None left rest status = Unit {0}
+ReadsAllBy (Some (Run start)) left rest status = ReadsAll left rest status
+ReadsAllBy (Some Check) left rest status = ReadsAll left rest status
+ReadsAllBy (Some (Load n)) left rest status = Unit {0}
+
+-- no words but those of a run and a check read the source
+abbrev pub UnreadBy : Option Request → Type 0 → Type 0
+UnreadBy None same = same
+UnreadBy (Some (Run start)) same = Unit {0}
+UnreadBy (Some Check) same = Unit {0}
+UnreadBy (Some (Load n)) same = same
 
 -- the orders that the disk got are those of the first commands
 
@@ -326,7 +379,7 @@ OrdersBy (Some (Run start)) told left order count next now status = IsTrue told 
 OrdersBy (Some Check) told left order count next now status = (next ≡ order) × (now ≡ count)
 OrdersBy (Some (Load n)) told left order count next now status = (next ≡ order) × (now ≡ count)
 
--- the clock is asked once, where the words give no moment and a document is accepted, and else not at all
+-- the clock is asked once, where the words give no moment and a document is accepted or made, and else not at all
 
 abbrev pub AsksOnce : Status → ℕ → ℕ → Type 0
 AsksOnce Done before now = now ≡ next_count before
@@ -346,4 +399,4 @@ abbrev pub Asks : Option Request → Status → ℕ → ℕ → Type 0
 Asks None status before now = now ≡ before
 Asks (Some (Run start)) status before now = AsksFor start status before now
 Asks (Some Check) status before now = now ≡ before
-Asks (Some (Load n)) status before now = now ≡ before
+Asks (Some (Load n)) status before now = AsksOnce status before now

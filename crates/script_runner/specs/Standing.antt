@@ -12,7 +12,7 @@ use Rattle.job_report.specs.declared.work.WorkEnd.{WorkEnd}
 use Rattle.job_report.specs.Texts.{down_text}
 use Rattle.script_runner.specs.declared.faults.LineFault.{LineFault}
 use Rattle.script_runner.specs.declared.faults.LineFault.TheVariants.{OutOfMemory, Failed}
-use Rattle.script_runner.specs.Serial.{Serves, StepsEnd, Reads, Halts}
+use Rattle.script_runner.specs.Serial.{Serves, StepsEnd, Reads, Halts, Script}
 
 -- the count of faults never falls, and rose where the book fell
 pub record Falls {G R : Type 0} (faults : R → ℕ) (old now : Booked G R) : Type 0 where
@@ -80,3 +80,14 @@ abbrev pub IsServed : Command → Type 0
 IsServed (Crash pick) = ⊥
 IsServed (Par quiet workers turns lanes) = ⊥
 IsServed other = Unit {0}
+
+-- the commands so far: their text, and the world that they lead to, which stands on the disk
+pub record Reached {G R : Type 0} (may_leave : R → Areas → Type 0) (faults : R → ℕ) (schema : Schema) (first : World) (commands : List Command) (start : ℕ)
+    (book : Booked G R) (clock : ℕ) (text : List ℕ) : Type 0 where
+  pub payloads : Payloads
+  pub script : Script schema first commands start (faults book.rig) text (world_of book clock payloads)
+  pub stands : StandsOn (world_of book clock payloads) (may_leave book.rig)
+
+-- commands from a world on led to the world of this book, whatever their lines
+abbrev pub Leads : {G R : Type 0} → (R → Areas → Type 0) → (R → ℕ) → Schema → World → List Command → ℕ → Booked G R → ℕ → Type 0
+Leads may_leave faults schema first commands start book clock = (text : List ℕ) × Reached may_leave faults schema first commands start book clock text

@@ -2,6 +2,7 @@ ghost use Rattle.std.specs.Prelude.{◌≡◌, ◌++◌, ◌∷◌, ◌<◌, ◌
 ghost use Rattle.delf_io.specs.Faults.{Rose};
 ghost use Rattle.delf_model.specs.Checked.{IsChecked, IsSpellable};
 ghost use Rattle.script_runner.specs.Checks.{CheckText, CheckCause, CheckedText, CheckedCause, ChecksAs, IsCheckText, AreRouteLines, IsRouteLine, AreRouteNames, AreRulesOf, by_any_types, is_by_any};
+ghost use Rattle.script_runner.specs.Outcomes.{ReadsAll};
 
 use crate::document::read_document;
 use crate::names::{edge_name, kind_name};
@@ -25,6 +26,7 @@ pub fn check_source<S: Source, K: Sink>(alloc: Global, source: &mut S, sink: &mu
         (K.held sink.new) result }
     ensures read { IsTrue (S.told source.old) → (read : List ℕ) × (length read ≤ 16777217)
         × (S.left source.old ≡ read ++ S.left source.new) }
+    ensures whole { IsTrue (S.told source.old) → ReadsAll (S.left source.old) (S.left source.new) result }
     ensures same_source { S.told source.new ≡ S.told source.old }
     ensures same_sink { K.told sink.new ≡ K.told sink.old }
     ensures source_faults { S.faults source.old ≤ S.faults source.new }

@@ -9,6 +9,9 @@ mod document;
 mod faults;
 mod jobs;
 mod load;
+#[cfg(test)]
+mod load_tests;
+mod loading;
 mod names;
 mod put;
 mod read;

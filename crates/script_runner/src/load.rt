@@ -1,6 +1,6 @@
 ghost use Rattle.std.specs.Prelude.{◌≡◌, ◌++◌, ◌∷◌, ◌≤◌, [], IfOk, flat_map, map, length};
 ghost use Rattle.std.specs.List.{All};
-ghost use Rattle.script_runner.specs.Loads.{IsLoad, load_commands, made_in_turn, block_alone, lane_alone, made_alone, restored_count, is_restored};
+ghost use Rattle.script_runner.specs.Loads.{IsLoad, IsStill, load_commands, made_in_turn, block_alone, lane_alone, made_alone, restored_count, is_restored};
 ghost use Rattle.script_runner.specs.Names.{HasNames, IsNumberedCommand};
 
 use crate::document::Document;
@@ -19,6 +19,7 @@ pub fn load_document(alloc: Global, n: u32) -> Result<Document, AllocError>
     ensures load { IfOk result (IsLoad n) }
     ensures named { IfOk result (λ document. HasNames document.schema document.rules) }
     ensures numbered { IfOk result (λ document. All (IsNumberedCommand document.rules) document.commands) }
+    ensures still { IfOk result (λ document. All IsStill document.commands) }
 {
     let (schema, script) = generated(alloc, n)?;
     let rules = match Rules::judge(alloc, &schema) {

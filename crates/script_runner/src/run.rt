@@ -9,18 +9,21 @@ ghost use Rattle.delf_model.specs.Legal.{Legal};
 ghost use Rattle.delf_model.specs.Sound.{Sound};
 ghost use Rattle.job_report.specs.Texts.{opened_text};
 ghost use Rattle.delf_model.specs.Payloads.{Payloads};
+ghost use Rattle.script_runner.specs.Complete.{IsQuiet, IsStore, EndsWell};
 ghost use Rattle.script_runner.specs.Documents.{IsDocument};
 ghost use Rattle.script_runner.specs.Endings.{UnopenedText, UnopenedCause, DownText, DownCause, EndText, EndCause};
+ghost use Rattle.script_runner.specs.LoadEnds.{LoadText};
 ghost use Rattle.script_runner.specs.Openings.{MayGive, StopCounts, Stops};
 ghost use Rattle.script_runner.specs.Orders.{Gives};
 ghost use Rattle.script_runner.specs.Requests.{request_of, moment_of_start};
 ghost use Rattle.script_runner.specs.Names.{HasNames, IsNumberedCommand, HasNoLanes};
-ghost use Rattle.script_runner.specs.Outcomes.{RunText, RunCause, UsageText, UsageCause, SourceText, SourceCause, BytesText, BytesCause, DocumentText, ScriptText, ScriptCause, FaultText, FaultCause, Untouched, UntouchedBy, OrdersOf, OrdersBy, OrdersMade, IsBad, bad_text, Asks, AsksFor};
+ghost use Rattle.script_runner.specs.Outcomes.{RunText, RunCause, UsageText, UsageCause, SourceText, SourceCause, BytesText, BytesCause, DocumentText, ScriptText, ScriptCause, FaultText, FaultCause, Untouched, UntouchedBy, UnreadBy, ReadsAll, ReadsAllBy, OrdersOf, OrdersBy, OrdersMade, IsBad, bad_text, Asks, AsksFor};
 ghost use Rattle.script_runner.specs.Standing.{Falls, Carries};
 ghost use Rattle.script_runner.specs.Worlds.{StandsOn, world_of};
 
 use crate::check::check_source;
 use crate::document::{Document, read_document};
+use crate::loading::run_load;
 use crate::put::put_all;
 use crate::read::{ReadError, read_at_most};
 use crate::script::perform;
@@ -57,14 +60,21 @@ pub fn run_plain<S: Source, K: Sink, R: Rig, C: Clock>(
     ensures cause { RunCause (request_of (map string_bytes words.now)) (S.told source.old) (S.left source.old)
         (Rose (S.faults source.old) (S.faults source.new)) (Rose (K.faults sink.old) (K.faults sink.new)) (DiskRose (R.Disk.faults rig) (R.Disk.faults result.1))
         (λ rules area at. Plain (R.Disk.told rig) (R.Disk.honest rig) → IsBad rules (R.Disk.seen rig) area at) result.0 }
+    ensures complete { IsQuiet (Rose (S.faults source.old) (S.faults source.new)) (Rose (K.faults sink.old) (K.faults sink.new)) (DiskRose (R.Disk.faults rig) (R.Disk.faults result.1))
+        → EndsWell (request_of (map string_bytes words.now)) (S.told source.old) (S.left source.old)
+        (λ rules. Plain (R.Disk.told rig) (R.Disk.honest rig) × IsStore rules (R.Disk.seen rig)) result.0 }
     ensures text { IsTrue (K.told sink.old) → RunText (request_of (map string_bytes words.now)) (C.last_answer clock.new)
         (S.told source.old) (S.left source.old) (λ moment document status. Plain (R.Disk.told rig) (R.Disk.honest rig) → DocumentText document moment (R.Disk.seen rig) (R.Disk.may_leave rig)
+        (R.Disk.faults rig) (R.Disk.faults result.1) (R.Disk.may_leave result.1) (K.held sink.old) (K.held sink.new) status)
+        (λ n moment document status. Plain (R.Disk.told rig) (R.Disk.honest rig) → LoadText n document moment (R.Disk.seen rig) (R.Disk.may_leave rig)
         (R.Disk.faults rig) (R.Disk.faults result.1) (R.Disk.may_leave result.1) (K.held sink.old) (K.held sink.new) status)
         (K.held sink.old) (K.held sink.new) result.0 }
 
     // What it leaves.
     ensures read { IsTrue (S.told source.old) → (read : List ℕ) × (length read ≤ 16777217)
         × (S.left source.old ≡ read ++ S.left source.new) }
+    ensures whole { IsTrue (S.told source.old) → ReadsAllBy (request_of (map string_bytes words.now)) (S.left source.old) (S.left source.new) result.0 }
+    ensures unread { UnreadBy (request_of (map string_bytes words.now)) (source.new ≡ source.old) }
     ensures same_source { S.told source.new ≡ S.told source.old }
     ensures same_sink { K.told sink.new ≡ K.told sink.old }
     ensures sink_faults { K.faults sink.old ≤ K.faults sink.new }
@@ -78,7 +88,8 @@ pub fn run_plain<S: Source, K: Sink, R: Rig, C: Clock>(
     match read_words(words) {
         Some(Request::Run(start)) => run_source(alloc, start, source, sink, rig, clock),
         Some(Request::Check) => (check_source(alloc, source, sink), rig),
-        Some(Request::Load { .. }) | None => (put_usage(sink), rig),
+        Some(Request::Load { n }) => run_load(alloc, n, sink, rig, clock),
+        None => (put_usage(sink), rig),
     }
 }
 
@@ -111,6 +122,7 @@ fn run_source<S: Source, K: Sink, R: Rig, C: Clock>(
         (K.held sink.old) (K.held sink.new) result.0 }
     ensures read { IsTrue (S.told source.old) → (read : List ℕ) × (length read ≤ 16777217)
         × (S.left source.old ≡ read ++ S.left source.new) }
+    ensures whole { IsTrue (S.told source.old) → ReadsAll (S.left source.old) (S.left source.new) result.0 }
     ensures same_source { S.told source.new ≡ S.told source.old }
     ensures same_sink { K.told sink.new ≡ K.told sink.old }
     ensures sink_faults { K.faults sink.old ≤ K.faults sink.new }
@@ -219,7 +231,7 @@ fn run_document<K: Sink, R: Rig>(
 }
 
 // Puts the line of an opening that failed after so many commands.
-fn put_unopened<K: Sink>(alloc: Global, fault: OpenFault, done: u32, sink: &mut K) -> Status
+pub(crate) fn put_unopened<K: Sink>(alloc: Global, fault: OpenFault, done: u32, sink: &mut K) -> Status
     ensures cause { UnopenedCause fault done (Rose (K.faults sink.old) (K.faults sink.new)) result }
     ensures text { IsTrue (K.told sink.old) → UnopenedText fault (K.held sink.old) (K.held sink.new) result }
     ensures same_sink { K.told sink.new ≡ K.told sink.old }
@@ -381,7 +393,7 @@ fn finish<K: Sink, R: Rig>(alloc: Global, store: Store<R>, done: u32, sink: &mut
 }
 
 // Puts the line of a disk fault in the last settling.
-fn put_down<K: Sink>(alloc: Global, len: u32, done: u32, sink: &mut K) -> Status
+pub(crate) fn put_down<K: Sink>(alloc: Global, len: u32, done: u32, sink: &mut K) -> Status
     ensures cause { DownCause len done (Rose (K.faults sink.old) (K.faults sink.new)) result }
     ensures text { IsTrue (K.told sink.old) → DownText len (K.held sink.old) (K.held sink.new) result }
     ensures same_sink { K.told sink.new ≡ K.told sink.old }

@@ -4,7 +4,7 @@ use Rattle.delf_model.specs.Checked.{IsChecked}
 use Rattle.delf_model.proofs.CheckedLemmas.{IsFirstBroken-refutes}
 use Rattle.script_runner.specs.Loads.{load_commands}
 use Rattle.script_runner.proofs.Documents.{has_names}
-use Rattle.script_runner.proofs.Generated.{generated_checked, load_numbered}
+use Rattle.script_runner.proofs.Generated.{generated_checked, load_numbered, load_still}
 use Rattle.script_runner.proofs.load.load_document.Goals as goal
 
 pub unreachable-requires : goal.unreachable-requires
@@ -18,3 +18,8 @@ returns-clause-numbered c =
     load_numbered c.in_ok-schema.schema c.in-Ok.rules c.in_ok-schema.script c.in_ok-commands.commands
     (has_names c.in_ok-schema.schema c.in-Ok.rules c.in-Ok.ensures.value) c.in_ok-schema.ensures.names
     (c.in_ok-commands.ensures ∙ ap load_commands c.as_slice.ensures)
+
+pub returns-clause-still : goal.returns-clause-still
+returns-clause-still c =
+    load_still c.args.n c.in_ok-commands.commands
+    (c.in_ok-commands.ensures ∙ ap load_commands (c.as_slice.ensures ∙ c.in_ok-schema.ensures.script))

@@ -11,12 +11,12 @@ returns-clause-text g c = λ told plain e stands.
     elim c.match-settle.branch [
       | in-Ok w ↦ rw w.status-is (rw w.sink-is (
           let at = w.in-Ok in
-          settled_end g.R.Disk.may_leave g.R.Disk.faults old c.settle.new.self.rig c.into_disk.result clock e _ _ c.into_disk.ensures refl
-          at.ensures.answer.0 at.ensures.cause (at.ensures.settled plain) (λ d image. (at.ensures.crash plain at.ensures.answer.0 e (stands.rests at.ensures.answer.0)).now d image)))
+          (settled_end g.R.Disk.may_leave g.R.Disk.faults old c.settle.new.self.rig c.into_disk.result clock e c.into_disk.ensures
+          at.ensures.answer.0 at.ensures.cause (at.ensures.settled plain) (λ d image. (at.ensures.crash plain at.ensures.answer.0 e (stands.rests at.ensures.answer.0)).now d image), refl)))
       | in-Err-Down w ↦ rw w.status-is (rw w.sink-is (
           let at = w.in-Err-Down in
           let answer = rw at.field-0-is at at.ensures.answer in
-          inl (down_end g.R.Disk.may_leave g.R.Disk.faults old c.settle.new.self c.into_disk.result clock at.len e _ _ c.into_disk.ensures refl answer stands)))
+          inl (down_end g.R.Disk.may_leave g.R.Disk.faults old c.settle.new.self c.into_disk.result clock at.len e c.into_disk.ensures answer stands, answer.1, refl)))
       | in-Err-DiskFault w ↦ rw w.status-is (rw w.sink-is (
           let at = w.in-Err-DiskFault in
           let answer = rw at.field-0-is at at.ensures.answer in

@@ -7,7 +7,7 @@ use Rattle.script_runner.specs.Worlds.{world_of}
 use Rattle.script_runner.proofs.Causes.{stopped_cause}
 use Rattle.script_runner.proofs.Ends.{orders_none}
 use Rattle.script_runner.proofs.Moves.{plain_then}
-use Rattle.script_runner.proofs.Openings.{found_stands, found_opens, ran_document, cause_by, counts_stop, bad_is, unopened_text, no_orders}
+use Rattle.script_runner.proofs.Openings.{found_stands, found_opens, ran_opened, cause_by, counts_stop, bad_is, unopened_text, no_orders}
 use Rattle.script_runner.proofs.run.run_document.Goals as goal
 
 pub returns-then-len-clause-orders : goal.returns-then-len-clause-orders
@@ -32,7 +32,9 @@ returns-in-Ok-clause-text g c = λ tell plain.
     let here = plain_then (g.R.Disk.told c.args.rig) (g.R.Disk.honest c.args.rig) (g.R.Disk.told c.in-Ok.store.book.rig) (g.R.Disk.honest c.in-Ok.store.book.rig)
     c.in-Ok.ensures.ok_kind.tells c.in-Ok.ensures.ok_kind.keeps_word plain in
     let first = world_of c.in-Ok.store.book c.in-Ok.store.clock now.payloads in
-    ran_document c.args.document c.args.moment (g.R.Disk.seen c.args.rig) (g.R.Disk.may_leave c.args.rig) (g.R.Disk.faults c.args.rig) (g.R.Disk.faults c.run_commands.result.1) (g.R.Disk.may_leave c.run_commands.result.1) (g.K.Sink.held c.args.sink.now) (g.K.Sink.held c.run_commands.new.sink) c.run_commands.result.0 (record {
+    ran_opened c.args.document.rules c.args.moment (g.R.Disk.seen c.args.rig) (g.R.Disk.may_leave c.args.rig) (g.R.Disk.faults c.args.rig) (g.R.Disk.faults c.run_commands.result.1) (g.R.Disk.may_leave c.run_commands.result.1) (g.K.Sink.held c.args.sink.now) (g.K.Sink.held c.run_commands.new.sink)
+    (λ w it. ScriptText c.args.document.schema w c.args.document.commands (g.R.Disk.faults c.args.rig) (g.R.Disk.faults c.run_commands.result.1) (g.R.Disk.may_leave c.run_commands.result.1) (g.K.Sink.held c.args.sink.now) (g.K.Sink.held c.run_commands.new.sink) it)
+    c.run_commands.result.0 (λ w area at text. text) (record {
       first = first;
       opens = found_opens c.args.document.rules (g.R.Disk.seen c.args.rig) c.in-Ok.store.book c.in-Ok.store.clock c.args.moment at.rules at.up at.beside
           (let least : c.min.result ≡ min c.args.moment greatest_moment = search rules in at.clock ∙ least) now;
@@ -52,8 +54,10 @@ returns-clause-cause g c =
 pub returns-clause-text : goal.returns-clause-text
 returns-clause-text g c = λ tell plain.
     let at = c.in-Err.ensures in
-    unopened_text c.args.document c.args.moment (g.R.Disk.seen c.args.rig) (g.R.Disk.may_leave c.args.rig) (g.R.Disk.faults c.args.rig) (g.R.Disk.faults c.in-Err.rig)
-    (g.R.Disk.may_leave c.in-Err.rig) _ _ c.in-Err.fault _ c.put_unopened.result (counts_stop (g.R.Disk.faults c.args.rig) (g.R.Disk.faults c.in-Err.rig) c.in-Err.fault at.err_count)
+    unopened_text c.args.document.rules c.args.moment (g.R.Disk.seen c.args.rig) (g.R.Disk.may_leave c.args.rig) (g.R.Disk.faults c.args.rig) (g.R.Disk.faults c.in-Err.rig)
+    (g.R.Disk.may_leave c.in-Err.rig) _ _
+    (λ w it. ScriptText c.args.document.schema w c.args.document.commands (g.R.Disk.faults c.args.rig) (g.R.Disk.faults c.in-Err.rig) (g.R.Disk.may_leave c.in-Err.rig) (g.K.Sink.held c.args.sink.now) (g.K.Sink.held c.put_unopened.new.sink) it)
+    c.in-Err.fault _ c.put_unopened.result (counts_stop (g.R.Disk.faults c.args.rig) (g.R.Disk.faults c.in-Err.rig) c.in-Err.fault at.err_count)
     (at.held plain) (at.bad plain) (at.never plain) (c.put_unopened.ensures.text tell) c.put_unopened.ensures.cause
 
 pub returns-clause-orders : goal.returns-clause-orders

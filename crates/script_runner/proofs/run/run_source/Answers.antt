@@ -2,7 +2,7 @@ use Rattle.std.proofs.Common.{◌≡◌, ◌++◌, ℕ, List, sym, subst, arith}
 use Rattle.delf_disk.specs.Plain.{Plain}
 use Rattle.script_runner.specs.Outcomes.{DocumentText}
 use Rattle.script_runner.specs.Requests.{moment_of_start}
-use Rattle.script_runner.proofs.Sources.{source_text, source_cause, source_orders}
+use Rattle.script_runner.proofs.Sources.{source_text, source_cause, source_orders, reads_all}
 use Rattle.script_runner.proofs.run.run_source.Goals as goal
 
 pub returns-in-Ok-clause-cause : goal.returns-in-Ok-clause-cause
@@ -34,3 +34,11 @@ returns-in-Ok-clause-orders g c = λ told.
     source_orders left read rest _ _ _ _ c.run_bytes.result.0
     (subst (λ (t : List ℕ). left ≡ t ++ rest) (sym c.as_slice.ensures.value) (c.in-Ok.ensures.taken told))
     (λ short. c.in-Ok.ensures.whole told (omega (arith, c.as_slice.ensures.len))) c.run_bytes.ensures.orders
+
+pub returns-in-Ok-clause-whole : goal.returns-in-Ok-clause-whole
+returns-in-Ok-clause-whole g c = λ told.
+    let read : List ℕ = c.as_slice.result.now in
+    let left = g.S.Source.left c.args.source.now in
+    let rest = g.S.Source.left c.read_at_most.new.source in
+    reads_all left read rest c.run_bytes.result.0 (subst (λ (t : List ℕ). left ≡ t ++ rest) (sym c.as_slice.ensures.value) (c.in-Ok.ensures.taken told))
+    (λ short. c.in-Ok.ensures.whole told (omega (arith, c.as_slice.ensures.len)))

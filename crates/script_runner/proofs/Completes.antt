@@ -1,0 +1,95 @@
+-- That a run which met no fault ends well, from the causes of all other ends.
+use Rattle.std.proofs.Common.{◌≡◌, ℕ, ◌<◌, ◌≤◌, Bool, false, IsTrue, Option, Some, None, List, length, refl, sym, subst, ap, ◌∙◌, arith}
+use Rattle.std.specs.Prelude.{Result, Ok, Err}
+use Rattle.std.specs.Str.Lines.{lines}
+use Rattle.delf_disk.specs.declared.area.Area.{Area}
+use Rattle.delf_disk.specs.Areas.{Areas}
+use Rattle.delf_disk.specs.Plain.{Plain}
+use Rattle.delf_model.specs.RuleSet.{RuleSet}
+use Rattle.delf_model.specs.Broken.{IsFirstBroken}
+use Rattle.delf_model.specs.Checked.{IsChecked, numbered}
+use Rattle.delf_model.specs.declared.schema.Schema.{Schema}
+use Rattle.delf_model.proofs.CheckedLemmas.{IsFirstBroken-refutes}
+use Rattle.schema_lang.specs.Grammar as grammar
+use Rattle.script_lang.specs.Scripts.{Fault, script_of}
+use Rattle.store_laws.specs.Stores.{StandBut}
+use Rattle.script_runner.specs.declared.document.Document.{Document}
+use Rattle.script_runner.specs.declared.status.Status.{Status}
+use Rattle.script_runner.specs.declared.status.Status.TheVariants.{Done, Usage, BadDocument, ReadFault, WriteFault, OutOfMemory, Down, BadStore}
+use Rattle.script_runner.specs.declared.words.Request.{Request}
+use Rattle.script_runner.specs.declared.words.Request.TheVariants.{Run, Check, Load}
+use Rattle.script_runner.specs.Complete.{IsWell, IsQuiet, IsStore, EndsWell}
+use Rattle.script_runner.specs.Documents.{IsDocument, IsFault, TooLong, InPart, InCheck, InScript}
+use Rattle.script_runner.specs.Loads.{IsLoad}
+use Rattle.script_runner.specs.Outcomes.{RunCause, IsBad}
+
+-- one document, or a fault
+
+same_part : (bytes : List ℕ) (a b : grammar.Part) → grammar.part_of (lines bytes) ≡ Ok a → grammar.part_of (lines bytes) ≡ Ok b → a ≡ b
+same_part bytes a b first second = cc (first, second)
+
+document_rules : (bytes : List ℕ) (a b : Document) → IsDocument bytes a → IsDocument bytes b → a.rules ≡ b.rules
+document_rules bytes a b first second =
+    let parts : first.part ≡ second.part = same_part bytes first.part second.part first.has.spelled second.has.spelled in
+    let schemas : a.schema ≡ b.schema = sym first.schema ∙ ap (λ (p : grammar.Part). p.schema) parts ∙ second.schema in
+    first.rules ∙ ap numbered schemas ∙ sym second.rules
+
+no_fault : (bytes : List ℕ) (document : Document) (fault : Fault) → IsDocument bytes document → IsFault bytes fault → ⊥
+no_fault bytes document fault read (TooLong long is) = absurd (let short = read.has.size in omega (arith, short))
+no_fault bytes document fault read (InPart found size refused is) =
+    let spelled = read.has.spelled in absurd (cc (spelled, refused))
+no_fault bytes document fault read (InCheck part broken has first is) =
+    let parts : read.part ≡ part = same_part bytes read.part part read.has.spelled has.spelled in
+    let schemas : document.schema ≡ part.schema = sym read.schema ∙ ap (λ (p : grammar.Part). p.schema) parts in
+    IsFirstBroken-refutes part.schema broken first (subst IsChecked schemas read.checked)
+no_fault bytes document fault read (InScript part has checked refused) =
+    let parts : read.part ≡ part = same_part bytes read.part part read.has.spelled has.spelled in
+    let schemas : document.schema ≡ part.schema = sym read.schema ∙ ap (λ (p : grammar.Part). p.schema) parts in
+    let script : script_of part.schema false part.rest part.next ≡ Ok document.commands =
+    subst (λ (p : grammar.Part). script_of p.schema false p.rest p.next ≡ Ok document.commands) parts
+    (subst (λ (s : Schema). script_of s false read.part.rest read.part.next ≡ Ok document.commands) (sym read.schema) read.script) in
+    absurd (cc (script, refused))
+
+not_bad : (plain : Type 0) (rules other : RuleSet) (seen : Areas) (area : Area) (at : ℕ) → rules ≡ other → plain → IsStore other seen → (plain → IsBad rules seen area at) → ⊥
+not_bad plain rules other seen area at same is store bad =
+    (bad is).stands_not store.history store.payloads store.entries (subst (λ (r : RuleSet). StandBut r store.history store.payloads seen) (sym same) store.stands)
+
+module _ (plain : Type 0) (seen : Areas) (told : Bool) (left : List ℕ) (read_rose write_rose rig_rose : Type 0) (quiet : IsQuiet read_rose write_rose rig_rose) where
+  pub ends_well : (request : Option Request) (status : Status) →
+      RunCause request told left read_rose write_rose rig_rose (λ rules area at. plain → IsBad rules seen area at) status →
+      EndsWell request told left (λ rules. plain × IsStore rules seen) status
+  ends_well None Usage cause = refl
+  ends_well None (WriteFault done) cause = absurd (quiet.sink cause.1)
+  ends_well None Done cause = absurd cause
+  ends_well None (BadDocument line) cause = absurd cause
+  ends_well None ReadFault cause = absurd cause
+  ends_well None (OutOfMemory done) cause = absurd cause
+  ends_well None (Down len) cause = absurd cause
+  ends_well None (BadStore area at) cause = absurd cause
+  ends_well (Some (Run start)) Done cause = λ document is read store. tt
+  ends_well (Some (Run start)) Usage cause = λ document is read store. cause
+  ends_well (Some (Run start)) (BadDocument line) cause = λ document is read store. let has = cause is in absurd (no_fault left document has.fault read has.refused)
+  ends_well (Some (Run start)) ReadFault cause = λ document is read store. absurd (quiet.source cause)
+  ends_well (Some (Run start)) (WriteFault done) cause = λ document is read store. absurd (quiet.sink cause)
+  ends_well (Some (Run start)) (OutOfMemory done) cause = λ document is read store. tt
+  ends_well (Some (Run start)) (Down len) cause = λ document is read store. absurd (quiet.rig cause.0)
+  ends_well (Some (Run start)) (BadStore area at) cause = λ document is read store.
+      let of = cause is in
+      absurd (not_bad plain of.document.rules document.rules seen area at (document_rules left of.document document of.read read) store.0 store.1 of.holds)
+  ends_well (Some Check) Done cause = λ document is read. tt
+  ends_well (Some Check) Usage cause = λ document is read. cause
+  ends_well (Some Check) (BadDocument line) cause = λ document is read. let has = cause is in absurd (no_fault left document has.fault read has.first)
+  ends_well (Some Check) ReadFault cause = λ document is read. absurd (quiet.source cause)
+  ends_well (Some Check) (WriteFault done) cause = λ document is read. absurd (quiet.sink cause.1)
+  ends_well (Some Check) (OutOfMemory done) cause = λ document is read. tt
+  ends_well (Some Check) (Down len) cause = λ document is read. cause
+  ends_well (Some Check) (BadStore area at) cause = λ document is read. cause
+  ends_well (Some (Load n)) Done cause = λ document load store. tt
+  ends_well (Some (Load n)) Usage cause = λ document load store. cause
+  ends_well (Some (Load n)) (BadDocument line) cause = λ document load store. cause
+  ends_well (Some (Load n)) ReadFault cause = λ document load store. cause
+  ends_well (Some (Load n)) (WriteFault done) cause = λ document load store. absurd (quiet.sink cause.1)
+  ends_well (Some (Load n)) (OutOfMemory done) cause = λ document load store. tt
+  ends_well (Some (Load n)) (Down len) cause = λ document load store. absurd (quiet.rig cause)
+  ends_well (Some (Load n)) (BadStore area at) cause = λ document load store.
+      absurd (not_bad plain cause.document.rules document.rules seen area at (cause.load.rules ∙ sym load.rules) store.0 store.1 cause.holds)

@@ -1,0 +1,27 @@
+use Rattle.script_runner.proofs.LoadSteps.{loaded_end, was_down_end, fell_load}
+use Rattle.script_runner.proofs.loading.finish_load.Goals.{in-Ok, in-Err-Down, in-Err-DiskFault}
+use Rattle.script_runner.proofs.loading.finish_load.Goals as goal
+
+pub returns-clause-text : goal.returns-clause-text
+returns-clause-text g c = λ told plain e stands.
+    let old = c.args.store.book in
+    let clock = c.args.store.clock in
+    elim c.match-settle.branch [
+      | in-Ok w ↦ rw w.status-is (rw w.sink-is (
+          let at = w.in-Ok in
+          loaded_end g.R.Disk.may_leave g.R.Disk.faults c.args.n old c.settle.new.self c.into_disk.result clock e _ _ w.put_loaded-status.result c.into_disk.ensures
+          at.ensures.answer.1 c.len-len.ensures.legal at.ensures.answer.0 at.ensures.cause (at.ensures.settled plain)
+          (λ d image. (at.ensures.crash plain at.ensures.answer.0 e (stands.rests at.ensures.answer.0)).now d image) stands (w.put_loaded-status.ensures.text told)))
+      | in-Err-Down w ↦ rw w.status-is (rw w.sink-is (
+          let at = w.in-Err-Down in
+          let answer = rw at.field-0-is at at.ensures.answer in
+          was_down_end g.R.Disk.may_leave g.R.Disk.faults c.args.n old c.settle.new.self c.into_disk.result clock at.len e _ _ _ w.put_down-status.result c.into_disk.ensures answer stands
+          (w.put_down-status.ensures.text told) w.put_down-status.ensures.cause))
+      | in-Err-DiskFault w ↦ rw w.status-is (rw w.sink-is (
+          let at = w.in-Err-DiskFault in
+          let answer = rw at.field-0-is at at.ensures.answer in
+          let cause = rw at.field-0-is at at.ensures.cause in
+          fell_load g.R.Disk.may_leave g.R.Disk.faults c.args.n old c.settle.new.self.rig c.into_disk.result clock at.len e _ _ _ w.put_down-status-in-Err-DiskFault.result c.into_disk.ensures
+          c.len-len.ensures.legal answer.0 cause.1 answer.2 (λ d image. (at.ensures.crash plain answer.0 e (stands.rests answer.0)).now d image) stands
+          (w.put_down-status-in-Err-DiskFault.ensures.text told) w.put_down-status-in-Err-DiskFault.ensures.cause))
+    ]
