@@ -30,7 +30,7 @@ use Rattle.store_laws.specs.Moves.{RestIn}
 use Rattle.store_laws.proofs.Appends.{ahead_of, no_items}
 use Rattle.delf_book.specs.Keeping.{item_sizes}
 use Rattle.job_table.specs.Table.{item_of_logged}
-use Rattle.delf_book.specs.Ledgers.{position_back, position_of_put}
+use Rattle.ledger.specs.Ledgers.{position_back, position_of_put}
 use Rattle.delf_book.specs.Stepping.{Waits, PutsBackItem, IsPutOf, IsSizeOf, IsPayloadOf}
 use Rattle.delf_book.specs.Writing.{Writes}
 use Rattle.delf_book.proofs.Fetching.{payload_there}

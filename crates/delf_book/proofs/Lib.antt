@@ -1,16 +1,11 @@
-pub mod Allowing
 pub mod Asking
-pub mod Bounds
 pub mod Callings
 pub mod Carrying
-pub mod Changes
-pub mod Entering
 pub mod Fetching
 pub mod Fitting
 pub mod GoesBack
 pub mod Halts
 pub mod Held
-pub mod Judging
 pub mod Lives
 pub mod Plainly
 pub mod PutBacks

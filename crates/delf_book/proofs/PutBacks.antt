@@ -24,7 +24,7 @@ use Rattle.payload_laws.proofs.Moves.{payloads_held}
 use Rattle.payload_laws.proofs.Placed.{placed_after}
 use Rattle.payload_laws.proofs.Rows.{none_handled}
 use Rattle.delf_book.specs.Keeping.{KeepsCarriers}
-use Rattle.delf_book.specs.Ledgers.{position_back, position_of_put}
+use Rattle.ledger.specs.Ledgers.{position_back, position_of_put}
 use Rattle.delf_book.proofs.Carrying.{len_is, inside, behind}
 
 -- the list with the record at the position that is put back

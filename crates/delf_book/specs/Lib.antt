@@ -1,9 +1,6 @@
 pub mod Books
 pub mod Dead
-pub mod Edits
 pub mod Keeping
-pub mod Keeps
-pub mod Ledgers
 pub mod Parts
 pub mod Reads
 pub mod Stepping

@@ -7,14 +7,14 @@ ghost use Rattle.delf_model.specs.Legal.{is_legal, greatest_moment, payload_limi
 ghost use Rattle.payload_laws.specs.Holders.{record_size, position_taken, scrubbed_by};
 ghost use Rattle.delf_book.specs.Books.{IsCrashSafe, IsDurable};
 ghost use Rattle.delf_book.specs.Keeping.{KeepsLogs, KeepsCarriers, KeepsAreas, HasRoom, PutsBack};
-ghost use Rattle.delf_book.specs.Ledgers.{state_of, is_ready, HasEntered};
+ghost use Rattle.ledger.specs.Ledgers.{state_of, is_ready, HasEntered};
 ghost use Rattle.delf_book.specs.Writing.{dead_carriers};
 
-use crate::ledger::Ledger;
 use crate::logs::Logs;
 use crate::records::write_over;
 use delf_disk::{Disk, Failed};
 use delf_model::{Entry, GraphStore};
+use ledger::Ledger;
 
 /// Adds a legal entry that logs no item and puts nothing back, and scrubs the journal record `dead` that it leaves
 /// without a needed payload.

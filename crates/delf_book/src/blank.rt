@@ -3,8 +3,8 @@ ghost use Rattle.delf_model.specs.RuleSet.{is_refcount};
 ghost use Rattle.delf_model.specs.Graph.{empty_graph};
 
 use crate::folds::Fold;
-use crate::ledger::Ledger;
 use delf_model::{GraphStore, Rules};
+use ledger::Ledger;
 use std::alloc::Global;
 
 /// The fold of the blank history over a blank graph. Takes no memory.

@@ -9,15 +9,15 @@ ghost use Rattle.delf_model.specs.Sound.{Sound};
 ghost use Rattle.delf_model.specs.State.{owner as owner_of, find_job};
 ghost use Rattle.delf_model.specs.Report.{status as status_of, job_at as line_at, listed_at as listed_of};
 ghost use Rattle.job_table.specs.Table.{IsGraphOf, top_seat as greatest_seat};
-ghost use Rattle.delf_book.specs.Ledgers.{found};
+ghost use Rattle.ledger.specs.Ledgers.{found};
 ghost use Rattle.delf_book.specs.Books.{state_in};
 
 use crate::beside::Beside;
-use crate::ledger::Ledger;
 use crate::logs::Logs;
 use delf_disk::Rig;
 use delf_model::{GraphStore, Job, JobLine, JobName, Listed, ObjectId, ObjectRow, Rules, Status};
 use history_laws::legal_is_sound;
+use ledger::Ledger;
 use std::marker::Model;
 
 /// A history with the disk that holds it: each accepted call and each step is one entry more.

@@ -9,9 +9,10 @@ use crate::beside::Beside;
 use crate::book::Book;
 use crate::calls::enter;
 use crate::faults::EntryFault;
-use crate::receipts::{moment_at, payload_of, receipt_of};
+use crate::receipts::{payload_of, receipt_of};
 use delf_disk::Rig;
 use delf_model::{Call, Entry, GraphStore, Moment, Refusal};
+use ledger::moment_at;
 
 impl<G: GraphStore, R: Rig> Book<G, R> {
     /// Makes a writing call of this seat, where the clock says `now`.

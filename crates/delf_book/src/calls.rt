@@ -7,16 +7,16 @@ ghost use Rattle.payload_laws.specs.Holders.{record_size, position_taken};
 ghost use Rattle.delf_book.specs.declared.faults.EntryFault.TheVariants.{OutOfMemory};
 ghost use Rattle.delf_book.specs.Books.{IsCrashSafe, IsDurable, CountsEntry, UnlessFailed};
 ghost use Rattle.delf_book.specs.Keeping.{KeepsUp, PutsBack, scrubs_rows};
-ghost use Rattle.delf_book.specs.Ledgers.{state_of, IsSame, HasEntered};
+ghost use Rattle.ledger.specs.Ledgers.{state_of, IsSame, HasEntered};
 
 use crate::adding::add;
 use crate::dead::dead_record;
 use crate::faults::EntryFault;
-use crate::ledger::Ledger;
 use crate::logs::Logs;
 use crate::ready::make_ready;
 use delf_disk::Disk;
 use delf_model::{Entry, GraphStore};
+use ledger::Ledger;
 
 /// Makes a legal entry that logs no item and puts nothing back. Room for `spare` further entries stays.
 pub(crate) fn enter<G: GraphStore, D: Disk>(

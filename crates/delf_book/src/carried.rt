@@ -3,14 +3,14 @@ ghost use Rattle.std.specs.Prelude.{◌≡◌, ◌↔◌, ◌+◌, ◌<◌, ◌+
 ghost use Rattle.delf_disk.specs.declared.area.Area.TheVariants.{Journal as JournalArea, Vault as VaultArea};
 ghost use Rattle.delf_model.specs.Legal.{is_legal};
 ghost use Rattle.delf_book.specs.Keeping.{KeepsCarriers};
-ghost use Rattle.delf_book.specs.Ledgers.{state_of, IsSame, HasEntered};
+ghost use Rattle.ledger.specs.Ledgers.{state_of, IsSame, HasEntered};
 ghost use Rattle.delf_book.specs.Reads.{TellsLive, carriers_of_what, carriers_of_row};
 ghost use Rattle.delf_book.specs.Writing.{dead_carriers};
 
 use crate::dead::{edge_record, object_record};
-use crate::ledger::Ledger;
 use delf_disk::Area;
 use delf_model::{EdgeKey, Entry, GraphStore, Item, What};
+use ledger::Ledger;
 use std::alloc::AllocError;
 
 /// Takes a legal entry into ledger and carriers. The only error is want of memory.

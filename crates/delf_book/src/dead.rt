@@ -4,11 +4,11 @@ ghost use Rattle.delf_model.specs.declared.rows.EdgeKey.{EdgeKey};
 ghost use Rattle.delf_model.specs.Graph.{object_at, edge_at};
 ghost use Rattle.payload_laws.specs.Holders.{scrubbed_by, carrier_of_object, carrier_of_edge};
 ghost use Rattle.delf_book.specs.Keeping.{KeepsCarriers, scrubs_rows};
-ghost use Rattle.delf_book.specs.Ledgers.{state_of};
+ghost use Rattle.ledger.specs.Ledgers.{state_of};
 ghost use Rattle.delf_book.specs.Writing.{dead_carriers};
 
-use crate::ledger::Ledger;
 use delf_model::{EdgeKey, GraphStore, ObjectId, What};
+use ledger::Ledger;
 
 /// The journal record that an entry leaves without a needed payload, of an entry that is neither a put nor a purge.
 pub(crate) fn dead_record<G: GraphStore>(

@@ -20,17 +20,17 @@ ghost use Rattle.store_laws.specs.Moves.{new_items};
 ghost use Rattle.delf_book.specs.Books.{IsCrashSafe, IsDurable};
 ghost use Rattle.delf_book.specs.Taken.{TakesItem};
 ghost use Rattle.delf_book.specs.Keeping.{KeepsLogs, KeepsCarriers, KeepsAreas, HasRoom, item_sizes};
-ghost use Rattle.delf_book.specs.Ledgers.{state_of, is_ready, HasEntered};
+ghost use Rattle.ledger.specs.Ledgers.{state_of, is_ready, HasEntered};
 ghost use Rattle.delf_book.specs.Writing.{longer};
 
 use crate::dead::dead_record;
-use crate::ledger::Ledger;
 use crate::logs::Logs;
 use crate::records::{log_item, write_over};
 use delete_step::{Claim, Prepared, item_of, prepare};
 use delf_disk::{Disk, Failed};
 use delf_model::{Entry, GraphStore, Item, LIMIT};
 use gate_log::GateLog;
+use ledger::Ledger;
 use vault::Vault;
 
 /// Makes a legal Cut or Erase: reads the payload of the row, adds its record to the restoration log, adds the entry, and

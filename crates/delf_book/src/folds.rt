@@ -4,16 +4,16 @@ ghost use Rattle.entry_codec.specs.EntryHead.{AreEntries};
 ghost use Rattle.delf_model.specs.Legal.{Legal, is_legal};
 ghost use Rattle.job_table.specs.Table.{IsGraphOf, item_at as item_of};
 ghost use Rattle.delf_book.specs.Keeping.{KeepsLogs, KeepsAreas};
-ghost use Rattle.delf_book.specs.Ledgers.{state_of, record_size, IsSame, HasEntered};
+ghost use Rattle.ledger.specs.Ledgers.{state_of, record_size, IsSame, HasEntered};
 ghost use Rattle.delf_book.specs.Reads.{TellsLive};
 
 use crate::book::Book;
 use crate::carried::{keeps, take};
-use crate::ledger::Ledger;
 use crate::logs::Logs;
 use delf_disk::{Area, Rig};
 use delf_model::{Entry, GraphStore, Item, Rules};
 use gate_log::GateLog;
+use ledger::Ledger;
 use std::alloc::AllocError;
 use std::marker::Model;
 use vault::Vault;
@@ -28,7 +28,7 @@ pub struct Fold<G: GraphStore> {
 
 impl<G: GraphStore> Model for Fold<G> {
     ghost use Rattle.delf_book.specs.Keeping.{KeepsCarriers};
-    ghost use Rattle.delf_book.specs.Ledgers.{Ledgered};
+    ghost use Rattle.ledger.specs.Ledgers.{Ledgered};
 
     ghost Value = { Ledgered G };
 

@@ -1,9 +1,8 @@
-//! The book: what the service knows of one history, and the one way to make the history longer.
+//! The book: a ledger over a disk, in which each call and each step is one record that a crash leaves whole or not at all.
 #![tactic(auto)]
 
 mod adding;
 mod answers;
-mod backs;
 mod beside;
 mod blank;
 mod book;
@@ -11,15 +10,9 @@ mod call;
 mod calls;
 mod carried;
 mod dead;
-#[cfg(test)]
-mod drive;
-mod edit;
-mod entries;
 mod erasing;
 mod faults;
 mod folds;
-mod ledger;
-mod legal;
 mod logs;
 mod purging;
 mod putting;
@@ -29,11 +22,8 @@ mod ready;
 mod receipts;
 mod records;
 mod settle;
-mod spelling;
 mod stepping;
 mod tails;
-#[cfg(test)]
-mod tests;
 mod work;
 
 pub use answers::{BookFault, Receipt, StepFault, Worked};
@@ -42,4 +32,3 @@ pub use blank::fold;
 pub use book::Book;
 pub use delf_model::{Call, Cause, JobLine, Listed, Status};
 pub use folds::Fold;
-pub use ledger::Ledger;

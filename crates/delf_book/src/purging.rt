@@ -19,15 +19,15 @@ ghost use Rattle.store_laws.specs.Stores.{AreScrubbed, journal_of, vault_of};
 ghost use Rattle.delf_book.specs.Steps.{IsPurge};
 ghost use Rattle.delf_book.specs.Books.{IsCrashSafe, IsDurable};
 ghost use Rattle.delf_book.specs.Keeping.{KeepsLogs, KeepsCarriers, KeepsAreas, HasRoom, item_sizes};
-ghost use Rattle.delf_book.specs.Ledgers.{state_of, is_ready, HasEntered};
+ghost use Rattle.ledger.specs.Ledgers.{state_of, is_ready, HasEntered};
 ghost use Rattle.delf_book.specs.Dead.{AreDead};
 ghost use Rattle.delf_book.specs.Writing.{Rests};
 
-use crate::ledger::Ledger;
 use crate::logs::Logs;
 use crate::records::{scrub_item, write_record};
 use delf_disk::{Disk, Failed};
 use delf_model::{Entry, GraphStore, Job, What};
+use ledger::Ledger;
 use vault::Vault;
 
 /// Makes a legal Purge: adds the entry, and scrubs the payload of each item of the job that was not put back, by rising

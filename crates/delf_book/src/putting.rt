@@ -10,19 +10,19 @@ ghost use Rattle.delf_model.specs.Payloads.{Payloads};
 ghost use Rattle.store_laws.specs.Moves.{RestIn};
 ghost use Rattle.delf_book.specs.Books.{IsCrashSafe, IsDurable};
 ghost use Rattle.delf_book.specs.Keeping.{KeepsLogs, KeepsCarriers, KeepsAreas, HasRoom, item_sizes};
-ghost use Rattle.delf_book.specs.Ledgers.{state_of, is_ready, HasEntered};
+ghost use Rattle.ledger.specs.Ledgers.{state_of, is_ready, HasEntered};
 ghost use Rattle.delf_book.specs.Stepping.{Waits, IsPutOf, PutsBackItem, IsSizeOf, IsPayloadOf, IsSealed, Differ, TellsWhy, RefusesPut, IfDamaged, CountsPut};
 ghost use Rattle.delf_book.specs.Steps.{PutsSealed};
 ghost use Rattle.delf_book.specs.Writing.{Rests, longer};
 
 use crate::adding::add;
 use crate::carried::carry;
-use crate::ledger::Ledger;
 use crate::logs::Logs;
 use crate::records::{scrub_item, write_record};
 use delf_disk::{Disk, Failed};
 use delf_model::{Entry, GraphStore, LIMIT};
 use gate_log::GateLog;
+use ledger::Ledger;
 use vault::{FetchFault, Vault};
 
 /// Makes a legal Put of item `i`. Where the item goes back, the entry's record takes its payload, and the payload is

@@ -14,16 +14,16 @@ ghost use Rattle.delf_model.specs.State.{after};
 ghost use Rattle.delf_model.specs.Payloads.{Payloads, Journal, is_needed, last_carrier, payload_at};
 ghost use Rattle.store_laws.specs.Moves.{RestIn};
 ghost use Rattle.delf_book.specs.Keeping.{KeepsLogs, KeepsCarriers};
-ghost use Rattle.delf_book.specs.Ledgers.{state_of};
+ghost use Rattle.ledger.specs.Ledgers.{state_of};
 ghost use Rattle.delf_book.specs.Reads.{IsObjectAt, IsEdgeAt};
 ghost use Rattle.delf_book.specs.Writing.{Rests};
 
 use crate::dead::{edge_record, object_record};
-use crate::ledger::Ledger;
 use crate::logs::Logs;
 use delf_disk::{Disk, Failed};
 use delf_model::{EdgeKey, GraphStore, LIMIT, ObjectId};
 use gate_log::GateLog;
+use ledger::Ledger;
 
 /// Reads the payload of journal record `i` to the front of `buf`, and gives its size. At every moment the areas hold the
 /// same.

@@ -1,11 +1,11 @@
 //! Room for one entry before its first disk call.
 ghost use Rattle.std.specs.Prelude.{◌≡◌, ◌+◌, ◌≤◌, ℕ, length, vec_capacity, IsTrue, OnOk};
 ghost use Rattle.delf_book.specs.Keeping.{HasRoom};
-ghost use Rattle.delf_book.specs.Ledgers.{is_ready, IsSame};
+ghost use Rattle.ledger.specs.Ledgers.{is_ready, IsSame};
 
-use crate::ledger::Ledger;
 use crate::logs::Logs;
 use delf_model::{GraphStore, What};
+use ledger::Ledger;
 use std::alloc::AllocError;
 
 /// Makes room for `n` entries more, and for what one of this kind puts into the graph. The only error is want of memory;

@@ -1,25 +1,14 @@
 //! What an accepted call is told.
-ghost use Rattle.std.specs.Prelude.{◌≡◌, ℕ, true, max, min, length, is_some};
+ghost use Rattle.std.specs.Prelude.{◌≡◌, ℕ, true, length, is_some};
 ghost use Rattle.delf_model.specs.Graph.{edge_stands};
 ghost use Rattle.delf_model.specs.State.{State, unlink_start};
-ghost use Rattle.delf_model.specs.Legal.{greatest_moment};
 ghost use Rattle.job_table.specs.Table.{IsGraphOf};
 ghost use Rattle.delf_book.specs.Books.{given_by, started_by, restored_items, EdgeStands};
-ghost use Rattle.delf_book.specs.Ledgers.{state_of};
+ghost use Rattle.ledger.specs.Ledgers.{state_of};
 
 use crate::answers::Receipt;
-use crate::ledger::Ledger;
-use delf_model::{Call, EdgeKey, EdgeRule, GraphStore, Job, Moment, Rules, What};
-
-/// The greatest moment of an entry.
-const LAST_MOMENT: Moment = 999_999_999_999;
-
-/// The moment of an entry that is made when the clock says `now`.
-pub(crate) fn moment_at(last: Moment, now: Moment) -> Moment
-    ensures { result ≡ max last (min now greatest_moment) }
-{
-    last.max(now.min(LAST_MOMENT))
-}
+use delf_model::{Call, EdgeKey, EdgeRule, GraphStore, Job, Rules, What};
+use ledger::Ledger;
 
 /// The bytes that a call brings.
 pub(crate) fn payload_of(call: &Call) -> &[u8]

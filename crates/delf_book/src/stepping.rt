@@ -9,20 +9,20 @@ ghost use Rattle.store_laws.specs.Moves.{RestIn};
 ghost use Rattle.delf_book.specs.declared.stepping.Halt.TheVariants.{OutOfMemory};
 ghost use Rattle.delf_book.specs.Books.{IsCrashSafe, IsDurable, is_reserved as is_reserved_step};
 ghost use Rattle.delf_book.specs.Keeping.{KeepsLogs, KeepsCarriers, KeepsAreas, KeepsUp, HasRoom};
-ghost use Rattle.delf_book.specs.Ledgers.{state_of, is_ready, IsSame, HasEntered};
+ghost use Rattle.ledger.specs.Ledgers.{state_of, is_ready, IsSame, HasEntered};
 ghost use Rattle.delf_book.specs.Stepping.{PutsBackItem, TellsWhy, RefusesPut, IfDamaged, CountsPut, halt_of, IfStarved, IfHurt, IfWaits, CountsHalt};
 ghost use Rattle.delf_book.specs.Steps.{PutsSealed, TellsDamage};
 ghost use Rattle.delf_book.specs.Writing.{Rests};
 
 use crate::adding::add;
 use crate::erasing::take_row;
-use crate::ledger::Ledger;
 use crate::logs::Logs;
 use crate::purging::purge_job;
 use crate::putting::put_item;
 use crate::ready::make_ready;
 use delf_disk::Disk;
 use delf_model::{Entry, GraphStore, What};
+use ledger::Ledger;
 use std::alloc::AllocError;
 use vault::FetchFault;
 

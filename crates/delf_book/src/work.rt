@@ -9,10 +9,10 @@ ghost use Rattle.delf_book.specs.Steps.{StepAnswers, StepIsSafe, CountsStep};
 use crate::answers::{StepFault, Worked};
 use crate::beside::Beside;
 use crate::book::Book;
-use crate::receipts::moment_at;
 use crate::stepping::{Halt, step};
 use delf_disk::Rig;
 use delf_model::{Entry, GraphStore, Moment};
+use ledger::moment_at;
 
 impl<G: GraphStore, R: Rig> Book<G, R> {
     /// Makes the first step of the serial order, where the clock says `now`: an expiry, a cut, an erasure, a put or a

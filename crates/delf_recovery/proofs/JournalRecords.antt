@@ -22,7 +22,7 @@ use Rattle.delf_model.specs.Legal.{is_legal}
 use Rattle.delf_model.proofs.Runs.{Legal_push}
 use Rattle.job_table.specs.Table.{item_at}
 use Rattle.payload_laws.specs.Holders.{record_size, put_size}
-use Rattle.delf_book.specs.Ledgers.{Ledgered, state_of, record_size as book_size, size_of_put, put_size as put_size_of, IsSame, HasEntered}
+use Rattle.ledger.specs.Ledgers.{Ledgered, state_of, record_size as book_size, size_of_put, put_size as put_size_of, IsSame, HasEntered}
 use Rattle.delf_book.proofs.Sizes.{journal_sizes-push}
 use Rattle.opening_laws.specs.Places.{IsRecordOf, IsWrong, AreRecordsOf}
 use Rattle.delf_recovery.specs.Reading.{IsRead, IsNoEntry, TakesEntry, RefusesEntry, JudgesEntry, ReadsEntries, EndsWrong, record_at}

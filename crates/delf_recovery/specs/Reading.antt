@@ -17,7 +17,7 @@ use Rattle.delf_model.specs.RuleSet.{RuleSet}
 use Rattle.delf_model.specs.State.{Logged, start, after}
 use Rattle.delf_model.specs.Legal.{Legal, is_legal}
 use Rattle.payload_laws.specs.Holders.{record_size}
-use Rattle.delf_book.specs.Ledgers.{Ledgered, state_of, IsSame, HasEntered}
+use Rattle.ledger.specs.Ledgers.{Ledgered, state_of, IsSame, HasEntered}
 use Rattle.delf_book.specs.Keeping.{journal_sizes, item_sizes}
 use Rattle.opening_laws.specs.Places.{IsWrong, AreRecordsOf, AreRecordsOfItems, BadJournal, Begins, gate_behind}
 use Rattle.store_laws.specs.Logged.{held, IsArea}

@@ -7,7 +7,7 @@ ghost use Rattle.delf_disk.specs.Moments.{Runs};
 ghost use Rattle.entry_codec.specs.declared.limits.TheConstants.{LARGEST_PAYLOAD};
 ghost use Rattle.entry_codec.specs.ItemHead.{item_size, IsTypeBounded};
 ghost use Rattle.gate_log.specs.Logs.{Fronts};
-ghost use Rattle.delf_book.specs.Ledgers.{state_of};
+ghost use Rattle.ledger.specs.Ledgers.{state_of};
 ghost use Rattle.entry_codec.specs.EntryHead.{AreEntries};
 ghost use Rattle.delf_recovery.specs.Reading.{JudgesItem, ReadsItems, EndsUnspelled};
 

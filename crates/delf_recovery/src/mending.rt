@@ -10,7 +10,7 @@ ghost use Rattle.gate_log.specs.Records.{size_of};
 ghost use Rattle.delf_model.specs.State.{start};
 ghost use Rattle.delf_model.specs.Legal.{Legal};
 ghost use Rattle.delf_model.specs.Payloads.{Payloads};
-ghost use Rattle.delf_book.specs.Ledgers.{state_of};
+ghost use Rattle.ledger.specs.Ledgers.{state_of};
 ghost use Rattle.delf_book.specs.Keeping.{KeepsLogs, journal_sizes, item_sizes};
 ghost use Rattle.store_laws.specs.Stores.{StandBut, Clean, vault_of};
 ghost use Rattle.store_laws.specs.Moves.{RestIn};

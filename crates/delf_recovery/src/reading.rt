@@ -12,7 +12,7 @@ ghost use Rattle.delf_model.specs.RuleSet.{RuleSet};
 ghost use Rattle.delf_model.specs.State.{start};
 ghost use Rattle.delf_model.specs.Legal.{Legal};
 ghost use Rattle.delf_model.specs.Payloads.{Payloads};
-ghost use Rattle.delf_book.specs.Ledgers.{state_of};
+ghost use Rattle.ledger.specs.Ledgers.{state_of};
 ghost use Rattle.delf_book.specs.Keeping.{journal_sizes};
 ghost use Rattle.store_laws.specs.Stores.{StandBut, vault_of};
 ghost use Rattle.entry_codec.specs.EntryHead.{AreEntries};

@@ -7,7 +7,7 @@ ghost use Rattle.delf_disk.specs.Moments.{Leaves};
 ghost use Rattle.gate_log.specs.Logs.{StandIn};
 ghost use Rattle.delf_model.specs.Payloads.{Payloads};
 ghost use Rattle.payload_laws.specs.Holders.{IsLive};
-ghost use Rattle.delf_book.specs.Ledgers.{state_of};
+ghost use Rattle.ledger.specs.Ledgers.{state_of};
 ghost use Rattle.delf_book.specs.Reads.{carrier_in};
 ghost use Rattle.delf_book.specs.Writing.{Rests};
 ghost use Rattle.store_laws.specs.Steps.{KeepsOthers};

@@ -8,7 +8,7 @@ ghost use Rattle.gate_log.specs.Opening.{Starts};
 ghost use Rattle.delf_model.specs.declared.entry.Entry.{Entry};
 ghost use Rattle.delf_model.specs.RuleSet.{RuleSet};
 ghost use Rattle.delf_model.specs.Payloads.{Payloads};
-ghost use Rattle.delf_book.specs.Ledgers.{state_of};
+ghost use Rattle.ledger.specs.Ledgers.{state_of};
 ghost use Rattle.job_table.specs.Table.{item_at};
 ghost use Rattle.store_laws.specs.Stores.{StandBut, vault_mark};
 ghost use Rattle.entry_codec.specs.EntryHead.{AreEntries};

@@ -2,7 +2,7 @@ use Rattle.std.proofs.Common.{◌≡◌, ℕ, [], ◌∷◌, Some, get_or, refl,
 use Rattle.delf_model.specs.Graph.{Graph, edge_at}
 use Rattle.delf_model.specs.Payloads.{Carrier, Journal}
 use Rattle.payload_laws.specs.Holders.{carrier_of_edge}
-use Rattle.delf_book.specs.Ledgers.{state_of}
+use Rattle.ledger.specs.Ledgers.{state_of}
 use Rattle.delf_book.proofs.Carrying.{RowCarried, edge_carried, carried_index, carried_within}
 use Rattle.delf_book.proofs.dead.edge_record.Given as given
 use Rattle.delf_book.proofs.dead.edge_record.Goals as goal

@@ -4,7 +4,7 @@ use Rattle.delf_disk.proofs.Flags.{stays_plain, same_kinds}
 use Rattle.delf_model.specs.State.{after}
 use Rattle.payload_laws.specs.Holders.{unput_of}
 use Rattle.delf_book.specs.Keeping.{item_sizes}
-use Rattle.delf_book.specs.Ledgers.{state_of}
+use Rattle.ledger.specs.Ledgers.{state_of}
 use Rattle.delf_book.proofs.Remaining.{items_within}
 use Rattle.delf_book.proofs.Scrubbing.{next_of, next_among, next_dead, next_left, none_left}
 use Rattle.delf_book.proofs.Writes.{leaves_joined}

@@ -10,7 +10,7 @@ use Rattle.payload_laws.specs.Holders.{unput_of}
 use Rattle.store_laws.specs.Moves.{RestIn}
 use Rattle.store_laws.specs.Steps.{AreScrubbedBut}
 use Rattle.store_laws.specs.Stores.{journal_of, vault_of}
-use Rattle.delf_book.specs.Ledgers.{state_of}
+use Rattle.ledger.specs.Ledgers.{state_of}
 use Rattle.delf_book.specs.Dead.{AreDead}
 use Rattle.delf_book.specs.Writing.{Rests}
 use Rattle.delf_book.proofs.Scrubbing.{Among}

@@ -2,7 +2,7 @@ use Rattle.std.proofs.Common.{◌≡◌, ℕ, take, refl, sym, ◌∙◌, subst,
 use Rattle.std.proofs.lemmas.Result.{IfOk-weaker}
 use Rattle.delf_model.specs.Graph.{edge_at}
 use Rattle.delf_model.specs.Payloads.{payload_at}
-use Rattle.delf_book.specs.Ledgers.{state_of}
+use Rattle.ledger.specs.Ledgers.{state_of}
 use Rattle.delf_book.proofs.Stored.{edge_stored, edge_position, stored_size, stored_inside}
 use Rattle.delf_book.proofs.reading.read_edge_at.Goals as goal
 

@@ -2,7 +2,7 @@ use Rattle.std.proofs.Common.{◌<◌, length, refl, sym, ◌∙◌, arith}
 use Rattle.delf_disk.specs.Images.{Same}
 use Rattle.delf_disk.proofs.Flags.{stays_plain, same_kinds}
 use Rattle.delf_disk.proofs.Moments.{started, same_on}
-use Rattle.delf_book.specs.Ledgers.{state_of}
+use Rattle.ledger.specs.Ledgers.{state_of}
 use Rattle.delf_recovery.proofs.ItemRecords.{found_bounded, more_items, ends_unspelled, reads_none}
 use Rattle.delf_recovery.proofs.items.read_items.Goals as goal
 

@@ -2,7 +2,7 @@ use Rattle.std.proofs.Common.{◌≡◌}
 use Rattle.delf_disk.specs.Images.{Same}
 use Rattle.delf_disk.specs.Plain.{Plain, SameKind}
 use Rattle.delf_disk.specs.Moments.{Runs}
-use Rattle.delf_book.specs.Ledgers.{state_of}
+use Rattle.ledger.specs.Ledgers.{state_of}
 use Rattle.delf_recovery.specs.Reading.{ReadsItems}
 use Rattle.delf_recovery.proofs.items.read_items.Given as goal
 

@@ -3,7 +3,7 @@ use Rattle.delf_disk.specs.declared.area.Area.{Area}
 use Rattle.delf_disk.proofs.Moments.{leaves_started}
 use Rattle.gate_log.specs.Steps.{MayDrop, Drops}
 use Rattle.delf_disk.specs.Moments.{Runs}
-use Rattle.delf_book.specs.Ledgers.{state_of}
+use Rattle.ledger.specs.Ledgers.{state_of}
 use Rattle.delf_book.specs.Writing.{Rests}
 use Rattle.delf_book.proofs.Writes.{on_ok}
 use Rattle.store_laws.specs.Stores.{StandBut}

@@ -6,7 +6,7 @@ use Rattle.gate_log.specs.Records.{size_of}
 use Rattle.delf_model.specs.RuleSet.{RuleSet}
 use Rattle.store_laws.specs.Logged.{IsLog}
 use Rattle.store_laws.specs.Stores.{StandBut, journal_mark, vault_mark}
-use Rattle.delf_book.specs.Ledgers.{state_of}
+use Rattle.ledger.specs.Ledgers.{state_of}
 use Rattle.delf_book.proofs.Writes.{leaves_joined}
 use Rattle.delf_recovery.specs.Opening.{IsBadAt}
 use Rattle.delf_recovery.specs.Reading.{ShowsFaulty, ReadsVault}

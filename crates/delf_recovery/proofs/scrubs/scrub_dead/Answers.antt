@@ -1,6 +1,6 @@
 use Rattle.std.proofs.Common.{◌∙◌, ap, length, arith}
 use Rattle.delf_disk.proofs.Flags.{stays_plain, same_kinds}
-use Rattle.delf_book.specs.Ledgers.{state_of}
+use Rattle.ledger.specs.Ledgers.{state_of}
 use Rattle.delf_book.proofs.Writes.{leaves_joined}
 use Rattle.delf_recovery.proofs.DeadPayloads.{zero_further, zero_all}
 use Rattle.delf_recovery.proofs.scrubs.scrub_dead.Goals as goal

@@ -5,7 +5,7 @@ use Rattle.delf_disk.specs.Moments.{Leaves}
 use Rattle.gate_log.specs.Logs.{StandIn}
 use Rattle.delf_model.specs.Payloads.{Payloads}
 use Rattle.payload_laws.specs.Holders.{IsLive}
-use Rattle.delf_book.specs.Ledgers.{state_of}
+use Rattle.ledger.specs.Ledgers.{state_of}
 use Rattle.delf_book.specs.Reads.{carrier_in}
 use Rattle.delf_book.specs.Writing.{Rests}
 use Rattle.store_laws.specs.Moves.{RestIn}

@@ -5,7 +5,7 @@ use Rattle.delf_disk.specs.Plain.{Plain}
 use Rattle.delf_disk.proofs.Flags.{stays_plain, was_plain}
 use Rattle.gate_log.specs.Logs.{Fronts}
 use Rattle.store_laws.specs.Stores.{vault_mark}
-use Rattle.delf_book.specs.Ledgers.{state_of}
+use Rattle.ledger.specs.Ledgers.{state_of}
 use Rattle.delf_recovery.specs.Reading.{ReadsItems, EndsUnspelled, FaultyVault, WhyFaulty}
 use Rattle.delf_recovery.proofs.Started.{fronts_now, start_leaves, leaves_still}
 use Rattle.delf_recovery.proofs.VaultJudged.{item_there, item_gone, has_items, reads_vault, faulty_vault}

@@ -1,6 +1,6 @@
 use Rattle.std.proofs.Common.{◌≡◌, List, length, sym, ap, ◌∙◌, arith}
 use Rattle.std.proofs.lemmas.Result.{IfOk-weaker}
-use Rattle.delf_book.proofs.Entering.{len_after}
+use Rattle.ledger.proofs.Entering.{len_after}
 use Rattle.delf_model.specs.declared.call.JobLine.{JobLine}
 use Rattle.job_report.specs.Texts.{report_text}
 use Rattle.delf_book.specs.Books.{state_in}

@@ -1,0 +1,5 @@
+pub mod Allowing
+pub mod Bounds
+pub mod Changes
+pub mod Entering
+pub mod Judging

@@ -1,0 +1,4 @@
+pub mod Edits
+pub mod Keeps
+pub mod Ledgers
+pub mod Parts

@@ -1,0 +1,16 @@
+//! The ledger: what the service knows of one history in memory, and the one way to make the history longer.
+#![tactic(auto)]
+
+mod backs;
+#[cfg(test)]
+mod drive;
+mod edit;
+mod entries;
+mod ledger;
+mod legal;
+mod spelling;
+#[cfg(test)]
+mod tests;
+
+pub use ledger::Ledger;
+pub use legal::moment_at;
