@@ -93,9 +93,9 @@ falls_then faults a b c first second = record {
   later = omega (arith, first.later, second.later);
   fell = λ down. elim (second.fell down) [
     | inl was ↦ elim (first.fell was) [
-        | inl before ↦ inl before
-        | inr rose ↦ inr (rose_to (faults a.rig) (faults b.rig) (faults c.rig) rose second.later)
-      ]
+      | inl before ↦ inl before
+      | inr rose ↦ inr (rose_to (faults a.rig) (faults b.rig) (faults c.rig) rose second.later)
+    ]
     | inr rose ↦ inr (rose_from (faults a.rig) (faults b.rig) (faults c.rig) first.later rose)
   ];
 }

@@ -156,12 +156,7 @@ fn make_all<R: Rig>(
 }
 
 // Settles the store after the commands of a load, and puts its line.
-fn finish_load<K: Sink, R: Rig>(
-    alloc: Global,
-    n: u32,
-    store: Store<R>,
-    sink: &mut K,
-) -> (Status, R)
+fn finish_load<K: Sink, R: Rig>(alloc: Global, n: u32, store: Store<R>, sink: &mut K) -> (Status, R)
     ensures cause { EndCause 0 (Rose (K.faults sink.old) (K.faults sink.new)) ((store.book.down ≡ true) ⊎ DiskRose (R.Disk.faults store.book.rig) (R.Disk.faults result.1)) result.0 }
     ensures text { IsTrue (K.told sink.old) → Plain (R.Disk.told store.book.rig) (R.Disk.honest store.book.rig) → (e : Payloads)
         → StandsOn (world_of store.book store.clock e) (R.Disk.may_leave store.book.rig)
@@ -205,11 +200,7 @@ fn put_loaded<K: Sink, R: Rig>(
 }
 
 // The line of a load: what the store has now.
-fn told_load<R: Rig>(
-    alloc: Global,
-    n: u32,
-    book: &Book<ListGraph, R>,
-) -> Result<Bytes, AllocError>
+fn told_load<R: Rig>(alloc: Global, n: u32, book: &Book<ListGraph, R>) -> Result<Bytes, AllocError>
     ensures { IfOk result (λ line. line ≡ loaded_line n (state_in book.now)) }
 {
     let objects = objects(alloc, book)?;

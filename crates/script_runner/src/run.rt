@@ -231,7 +231,12 @@ fn run_document<K: Sink, R: Rig>(
 }
 
 // Puts the line of an opening that failed after so many commands.
-pub(crate) fn put_unopened<K: Sink>(alloc: Global, fault: OpenFault, done: u32, sink: &mut K) -> Status
+pub(crate) fn put_unopened<K: Sink>(
+    alloc: Global,
+    fault: OpenFault,
+    done: u32,
+    sink: &mut K,
+) -> Status
     ensures cause { UnopenedCause fault done (Rose (K.faults sink.old) (K.faults sink.new)) result }
     ensures text { IsTrue (K.told sink.old) → UnopenedText fault (K.held sink.old) (K.held sink.new) result }
     ensures same_sink { K.told sink.new ≡ K.told sink.old }

@@ -21,10 +21,12 @@ returns-in_err-perform-clause-starves g c = on_err c.from_residual.result (λ pl
     let old = c.args.store.now in
     let here = plain_then (g.R.Disk.told old.book.rig) (g.R.Disk.honest old.book.rig) (g.R.Disk.told c.loop-command.store.book.rig)
     (g.R.Disk.honest c.loop-command.store.book.rig) inv.kind.tells inv.kind.keeps_word plain in
-    let leads = inv.leads plain e stands in
-    (c.loop-command.command-index, starved_in g.R.Disk.may_leave g.R.Disk.faults c.args.schema.now (world_of old.book old.clock e) c.args.commands.now
-    (g.R.Disk.faults old.book.rig) c.loop-command.command-index c.command-item.result c.loop-command.store.book c.loop-command.store.clock c.perform.new.store.book.rig leads.0
-    (omega arith) c.command-item.is leads.1 (c.in_err-perform.ensures.halts here leads.1.payloads leads.1.stands)))
+    let leads = inv.leads plain e stands in (
+      c.loop-command.command-index,
+      starved_in g.R.Disk.may_leave g.R.Disk.faults c.args.schema.now (world_of old.book old.clock e) c.args.commands.now
+          (g.R.Disk.faults old.book.rig) c.loop-command.command-index c.command-item.result c.loop-command.store.book c.loop-command.store.clock c.perform.new.store.book.rig leads.0
+          (omega arith) c.command-item.is leads.1 (c.in_err-perform.ensures.halts here leads.1.payloads leads.1.stands),
+    ))
 
 pub loop-command-preserved : goal.loop-command-preserved
 loop-command-preserved g c =

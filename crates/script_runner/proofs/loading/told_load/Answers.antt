@@ -1,7 +1,7 @@
 use Rattle.std.proofs.Common.{◌≡◌, List, length, sym, ap, ◌∙◌, arith}
 use Rattle.std.proofs.lemmas.Result.{IfOk-weaker}
 use Rattle.script_runner.specs.Loads.{restored_count}
-use Rattle.delf_book.proofs.Entering.{len_after}
+use Rattle.ledger.proofs.Entering.{len_after}
 use Rattle.delf_book.specs.Books.{state_in}
 use Rattle.script_runner.proofs.Told.{load_told}
 use Rattle.script_runner.proofs.loading.told_load.Goals as goal

@@ -10,9 +10,11 @@ returns-clause-text g c = λ told plain e stands.
     let clock = c.args.store.clock in
     elim c.match-settle.branch [
       | in-Ok w ↦ rw w.status-is (rw w.sink-is (
-          let at = w.in-Ok in
-          (settled_end g.R.Disk.may_leave g.R.Disk.faults old c.settle.new.self.rig c.into_disk.result clock e c.into_disk.ensures
-          at.ensures.answer.0 at.ensures.cause (at.ensures.settled plain) (λ d image. (at.ensures.crash plain at.ensures.answer.0 e (stands.rests at.ensures.answer.0)).now d image), refl)))
+          let at = w.in-Ok in (
+            settled_end g.R.Disk.may_leave g.R.Disk.faults old c.settle.new.self.rig c.into_disk.result clock e c.into_disk.ensures
+                at.ensures.answer.0 at.ensures.cause (at.ensures.settled plain) (λ d image. (at.ensures.crash plain at.ensures.answer.0 e (stands.rests at.ensures.answer.0)).now d image),
+            refl,
+          )))
       | in-Err-Down w ↦ rw w.status-is (rw w.sink-is (
           let at = w.in-Err-Down in
           let answer = rw at.field-0-is at at.ensures.answer in
