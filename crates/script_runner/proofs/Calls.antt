@@ -1,5 +1,5 @@
 -- The answer of a call, said of the world.
-use Rattle.std.proofs.Common.{◌≡◌, ◌⊎◌, ℕ, ◌<◌, ◌≤◌, Bool, true, false, cond, Option, Some, None, List, [], ◌∷◌, ◌++◌, length, refl, sym, ap, subst, ◌∙◌, inl, inr, arith}
+use Rattle.std.proofs.Common.{◌≡◌, ℕ, ◌<◌, Bool, true, false, cond, Option, Some, None, List, [], ◌∷◌, ◌++◌, length, refl, sym, ap, subst, ◌∙◌, inl, inr, arith}
 use Rattle.std.specs.Prelude.{Result, Ok, Err, IfOk, IfErr, OnErr, is_some}
 use Rattle.delf_disk.specs.Areas.{Areas}
 use Rattle.delf_disk.specs.Causes.{Rose}
@@ -7,27 +7,26 @@ use Rattle.delf_model.specs.declared.schema.Schema.{Schema}
 use Rattle.delf_model.specs.declared.call.Call.{Call}
 use Rattle.delf_model.specs.declared.call.Call.TheVariants as call
 use Rattle.delf_model.specs.declared.call.Refusal.{Refusal}
-use Rattle.delf_model.specs.declared.call.Refusal.TheVariants.{Down, TooLong, Absent, Condemned, WrongEnd, NameTaken, EdgeTaken, NoEdge, NotDirect, JobTaken, NoJob, Pending, RestoredBefore, WindowOver, Full, OutOfMemory, DiskFault}
+use Rattle.delf_model.specs.declared.call.Refusal.TheVariants.{Down, WrongEnd, OutOfMemory, DiskFault}
 use Rattle.delf_model.specs.declared.entry.Entry.{Entry}
 use Rattle.delf_model.specs.declared.entry.What.{What}
 use Rattle.delf_model.specs.declared.entry.What.TheVariants.{Unlink}
 use Rattle.delf_model.specs.declared.script.Command.TheVariants.{Submit}
-use Rattle.delf_model.specs.RuleSet.{RuleSet}
-use Rattle.delf_model.specs.State.{State, after, start_of, unlink_start}
+use Rattle.delf_model.specs.State.{State, start_of, unlink_start}
 use Rattle.delf_model.specs.Legal.{Legal, refused, answered_by, next_tag, reply, moment_of}
 use Rattle.delf_model.specs.Payloads.{Payloads, payloads_after}
 use Rattle.store_laws.specs.Stores.{digest}
 use Rattle.store_laws.specs.Moves.{RestIn}
 use Rattle.delf_book.specs.Parts.{Interrupted}
 use Rattle.delf_book.specs.declared.answers.Receipt.{Receipt}
-use Rattle.delf_book.specs.Books.{Booked, state_in, Grew, Fell, Accepted, Interrupts, Answers, CallIsSafe, CountsRefusal, given_by, started_by, job_if, restored_items, IsCrashSafe}
+use Rattle.delf_book.specs.Books.{Booked, state_in, Grew, Accepted, Interrupts, Answers, CallIsSafe, CountsRefusal, given_by, started_by, job_if, restored_items}
 use Rattle.job_report.specs.Texts.{unlinked_text, refusal_text, down_text}
 use Rattle.script_runner.specs.Lines.{receipt_text}
 use Rattle.script_runner.specs.Names.{IsNumberedRefusal}
 use Rattle.script_runner.specs.Serial.{answer, answer_text, accepted_text, after_answer, edge_name, started_name, refusal_name, refused_down, Submits}
 use Rattle.script_runner.specs.Serial as serial
 use Rattle.script_runner.specs.Standing.{Carried, HaltedAt, Falls}
-use Rattle.script_runner.specs.Worlds.{World, StandsOn, IsHeld, world_of, state_of, now_of, with_entry, fallen, interrupted}
+use Rattle.script_runner.specs.Worlds.{World, StandsOn, IsHeld, world_of, state_of, now_of, fallen, interrupted}
 use Rattle.script_runner.proofs.Keeping.{refusal_numbered}
 use Rattle.script_runner.proofs.Standing.{world, same_world, stands_held, up_stands, fell_world, fell_stands}
 

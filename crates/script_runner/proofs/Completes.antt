@@ -1,12 +1,10 @@
 -- That a run which met no fault ends well, from the causes of all other ends.
-use Rattle.std.proofs.Common.{◌≡◌, ℕ, ◌<◌, ◌≤◌, Bool, false, IsTrue, Option, Some, None, List, length, refl, sym, subst, ap, ◌∙◌, arith}
-use Rattle.std.specs.Prelude.{Result, Ok, Err}
+use Rattle.std.proofs.Common.{◌≡◌, ℕ, Bool, false, Option, Some, None, List, refl, sym, subst, ap, ◌∙◌, arith}
+use Rattle.std.specs.Prelude.{Ok}
 use Rattle.std.specs.Str.Lines.{lines}
 use Rattle.delf_disk.specs.declared.area.Area.{Area}
 use Rattle.delf_disk.specs.Areas.{Areas}
-use Rattle.delf_disk.specs.Plain.{Plain}
 use Rattle.delf_model.specs.RuleSet.{RuleSet}
-use Rattle.delf_model.specs.Broken.{IsFirstBroken}
 use Rattle.delf_model.specs.Checked.{IsChecked, numbered}
 use Rattle.delf_model.specs.declared.schema.Schema.{Schema}
 use Rattle.delf_model.proofs.CheckedLemmas.{IsFirstBroken-refutes}
@@ -18,9 +16,8 @@ use Rattle.script_runner.specs.declared.status.Status.{Status}
 use Rattle.script_runner.specs.declared.status.Status.TheVariants.{Done, Usage, BadDocument, ReadFault, WriteFault, OutOfMemory, Down, BadStore}
 use Rattle.script_runner.specs.declared.words.Request.{Request}
 use Rattle.script_runner.specs.declared.words.Request.TheVariants.{Run, Check, Load}
-use Rattle.script_runner.specs.Complete.{IsWell, IsQuiet, IsStore, EndsWell}
+use Rattle.script_runner.specs.Complete.{IsQuiet, IsStore, EndsWell}
 use Rattle.script_runner.specs.Documents.{IsDocument, IsFault, TooLong, InPart, InCheck, InScript}
-use Rattle.script_runner.specs.Loads.{IsLoad}
 use Rattle.script_runner.specs.Outcomes.{RunCause, IsBad}
 
 -- one document, or a fault

@@ -1,5 +1,5 @@
 -- A crash and the opening behind it, said of the world.
-use Rattle.std.proofs.Common.{◌≡◌, ◌⊎◌, ℕ, ◌≤◌, Bool, true, false, Option, Some, None, List, [], ◌∷◌, ◌++◌, length, refl, sym, ap, subst, ◌∙◌, inl, inr, arith}
+use Rattle.std.proofs.Common.{◌≡◌, ◌⊎◌, ℕ, Bool, true, false, Option, Some, None, List, [], ◌∷◌, ◌++◌, length, refl, sym, ap, subst, ◌∙◌, inl, inr}
 use Rattle.std.specs.Prelude.{IfSome}
 use Rattle.delf_disk.specs.Areas.{Areas}
 use Rattle.delf_disk.specs.Images.{After, Same}
@@ -22,7 +22,7 @@ use Rattle.job_report.specs.Texts.{opened_text}
 use Rattle.script_runner.specs.Openings.{Stops}
 use Rattle.script_runner.specs.Serial as serial
 use Rattle.script_runner.specs.Standing.{Carried, HaltedAt}
-use Rattle.script_runner.specs.Worlds.{World, StandsOn, IsHeld, StandsBeside, world_of, mended, entered}
+use Rattle.script_runner.specs.Worlds.{World, StandsOn, IsHeld, StandsBeside, world_of}
 use Rattle.script_runner.proofs.Standing.{world, same_world, stands_held, up_stands}
 
 pub entries_with : (history : List Entry) (entry : Entry) → AreEntries history → IsEntry entry → AreEntries (history ++ entry ∷ [])

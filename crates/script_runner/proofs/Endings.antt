@@ -1,19 +1,18 @@
 -- The last settling, said of the world.
-use Rattle.std.proofs.Common.{◌≡◌, ◌⊎◌, ℕ, ◌≤◌, true, false, Option, None, List, ◌++◌, length, refl, sym, ap, subst, ◌∙◌, inl, inr}
-use Rattle.std.specs.Prelude.{Result, Ok, Err}
+use Rattle.std.proofs.Common.{◌≡◌, ℕ, false, List, ◌++◌, length, refl, sym, ap, subst, ◌∙◌, inr}
 use Rattle.delf_disk.specs.Areas.{Areas}
 use Rattle.delf_disk.specs.Causes.{Rose}
 use Rattle.delf_model.specs.Legal.{Legal}
 use Rattle.delf_model.specs.Payloads.{Payloads}
 use Rattle.store_laws.specs.Stores.{Settled}
 use Rattle.store_laws.specs.Moves.{RestIn}
-use Rattle.delf_book.specs.Books.{Booked, Fell, WasDown}
+use Rattle.delf_book.specs.Books.{Booked, WasDown}
 use Rattle.job_report.specs.Texts.{down_text}
 use Rattle.script_runner.specs.declared.status.Status.{Status}
 use Rattle.script_runner.specs.declared.status.Status.TheVariants.{Done, Usage, BadDocument, ReadFault, WriteFault, OutOfMemory, Down, BadStore}
 use Rattle.script_runner.specs.Endings.{Settles, StaysDown, FallsAtEnd, EndText, DownText, DownCause}
 use Rattle.script_runner.specs.Outcomes.{IsCut}
-use Rattle.script_runner.specs.Worlds.{World, StandsOn, IsHeld, world_of}
+use Rattle.script_runner.specs.Worlds.{World, StandsOn, world_of}
 use Rattle.script_runner.proofs.Standing.{rest_held}
 
 pub settled_end : {G R : Type 0} → (may_leave : R → Areas → Type 0) (faults : R → ℕ) (old : Booked G R) (now rig : R) (clock : ℕ) (e : Payloads) →

@@ -1,5 +1,5 @@
 -- The commands of a load, one by one, and how it ends.
-use Rattle.std.proofs.Common.{◌≡◌, ◌⊎◌, ℕ, ◌+◌, ◌<◌, ◌≤◌, true, false, List, [], ◌++◌, length, get_or, take, refl, sym, ap, subst, ◌∙◌, inl, inr, arith}
+use Rattle.std.proofs.Common.{◌≡◌, ◌⊎◌, ℕ, ◌+◌, ◌<◌, ◌≤◌, false, List, [], ◌++◌, length, get_or, take, sym, ap, subst, ◌∙◌, inl, inr, arith}
 use Rattle.delf_disk.specs.declared.area.Area.{Area}
 use Rattle.delf_disk.specs.declared.area.Order.{Order}
 use Rattle.delf_disk.specs.Areas.{Areas}

@@ -1,5 +1,5 @@
 -- Lines that are read off a disk, one behind the other.
-use Rattle.std.proofs.Common.{◌≡◌, ℕ, ◌+◌, ◌≤◌, ◌<◌, Bool, true, false, List, [], ◌∷◌, ◌++◌, Option, None, length, get_or, take, flat_map, refl, sym, ap, subst, ◌∙◌, arith, IsTrue, inl, inr}
+use Rattle.std.proofs.Common.{◌≡◌, ℕ, ◌+◌, ◌≤◌, ◌<◌, Bool, true, false, List, ◌++◌, None, length, get_or, take, flat_map, refl, sym, ap, subst, ◌∙◌, arith, IsTrue, inl, inr}
 use Rattle.std.specs.Prelude.{Result, Ok, Err, IfOk, IfErr}
 use Rattle.delf_disk.specs.declared.area.Order.{Order}
 use Rattle.delf_disk.specs.Areas.{Areas}
@@ -12,11 +12,11 @@ use Rattle.delf_book.specs.Books.{Booked, Fell, OnlyRig, state_in}
 use Rattle.job_report.specs.Texts.{down_text}
 use Rattle.script_runner.specs.declared.faults.LineFault.{LineFault}
 use Rattle.script_runner.specs.declared.faults.LineFault.TheVariants.{OutOfMemory, Failed}
-use Rattle.script_runner.specs.Lines.{Moved, Dropped, LineLeaves, Tells, KeepsRest}
+use Rattle.script_runner.specs.Lines.{Moved, Dropped, LineLeaves, Tells}
 use Rattle.script_runner.specs.Serial.{refused_down}
 use Rattle.script_runner.specs.Serial as serial
-use Rattle.script_runner.specs.Standing.{Falls, ReadOut, ReadsOut, StaysHeld, LineSaid}
-use Rattle.script_runner.specs.Worlds.{World, StandsOn, IsHeld, world_of, fallen}
+use Rattle.script_runner.specs.Standing.{Falls, ReadsOut, StaysHeld, LineSaid}
+use Rattle.script_runner.specs.Worlds.{World, StandsOn, world_of, fallen}
 use Rattle.script_runner.proofs.Standing.{rest_held, stands_held, up_stands, fell_world, fell_stands}
 use Rattle.script_runner.proofs.Calls.{ok_is}
 use Rattle.script_runner.proofs.Loops.{text_grows}

@@ -1,9 +1,8 @@
 -- The first opening, and what a document comes to.
-use Rattle.std.proofs.Common.{◌≡◌, ◌≢◌, ◌⊎◌, ℕ, ◌≤◌, min, false, None, List, [], ◌++◌, length, take, refl, sym, ap, subst, ◌∙◌, inl, inr, arith}
+use Rattle.std.proofs.Common.{◌≡◌, ℕ, min, false, None, List, [], length, refl, sym, subst, inl, inr, arith}
 use Rattle.delf_disk.specs.declared.area.Area.{Area}
 use Rattle.delf_disk.specs.declared.area.Order.{Order}
 use Rattle.delf_disk.specs.Areas.{Areas}
-use Rattle.delf_disk.specs.Causes.{Rose}
 use Rattle.delf_model.specs.declared.entry.Entry.{Entry}
 use Rattle.delf_model.specs.declared.script.Command.{Command}
 use Rattle.delf_model.specs.RuleSet.{RuleSet}
@@ -16,13 +15,12 @@ use Rattle.delf_book.specs.Books.{Booked}
 use Rattle.delf_recovery.specs.declared.fault.OpenFault.{OpenFault}
 use Rattle.delf_recovery.specs.declared.fault.OpenFault.TheVariants as fault
 use Rattle.delf_recovery.specs.Opening.{StandsNow, IsNotBad, IsBadAt}
-use Rattle.job_report.specs.Texts.{down_text}
 use Rattle.script_runner.specs.declared.status.Status.{Status}
 use Rattle.script_runner.specs.declared.status.Status.TheVariants.{Done, Usage, BadDocument, ReadFault, WriteFault, OutOfMemory, Down, BadStore}
 use Rattle.script_runner.specs.Endings.{UnopenedText, UnopenedCause}
 use Rattle.script_runner.specs.Openings.{CountsOpen, StopCounts}
 use Rattle.script_runner.specs.Orders.{GivesAll}
-use Rattle.script_runner.specs.Outcomes.{ScriptCause, OpenedText, RunsFrom, StillStands, IsBad, IsCut, OrdersMade, IsMade, bad_text}
+use Rattle.script_runner.specs.Outcomes.{ScriptCause, OpenedText, RunsFrom, StillStands, IsBad, OrdersMade, IsMade}
 use Rattle.script_runner.specs.Worlds.{World, StandsOn, Opens, world_of}
 use Rattle.script_runner.proofs.Crashes.{Found}
 use Rattle.script_runner.proofs.Ends.{orders_none}

@@ -1,15 +1,14 @@
 -- Bytes that were read, and the document that the source had left.
-use Rattle.std.proofs.Common.{◌≡◌, ◌⊎◌, ℕ, ◌≤◌, ◌<◌, Bool, IsTrue, List, [], ◌++◌, length, refl, sym, ap, subst, ◌∙◌, inl, inr, arith, length-append, append-nil}
+use Rattle.std.proofs.Common.{◌≡◌, ℕ, ◌<◌, Bool, IsTrue, List, [], ◌++◌, length, refl, sym, subst, inl, inr}
 use Rattle.delf_disk.specs.declared.area.Area.{Area}
 use Rattle.delf_disk.specs.declared.area.Order.{Order}
 use Rattle.delf_model.specs.RuleSet.{RuleSet}
 use Rattle.script_lang.specs.declared.fault.DocumentFault.{DocumentFault}
 use Rattle.script_lang.specs.declared.fault.DocumentFault.TheVariants as told
-use Rattle.script_lang.specs.Scripts.{Fault}
 use Rattle.script_runner.specs.declared.status.Status.{Status}
 use Rattle.script_runner.specs.declared.status.Status.TheVariants.{Done, Usage, BadDocument, ReadFault, WriteFault, OutOfMemory, Down, BadStore}
 use Rattle.script_runner.specs.declared.document.Document.{Document}
-use Rattle.script_runner.specs.Documents.{IsDocument, IsFault, TooLong, InPart, InCheck, InScript, IsToldFault}
+use Rattle.script_runner.specs.Documents.{IsDocument, IsFault, IsToldFault}
 use Rattle.script_runner.proofs.ReadBytes.{all_read, lift_fault}
 use Rattle.script_runner.specs.Outcomes.{OfDocument, TellsFault, CutsFault, HasFault, FaultText, FaultCause, BytesText, BytesCause, SourceText, SourceCause, ScriptCause, OrdersOf, OrdersMade, Untouched, ReadsAll}
 

@@ -1,5 +1,5 @@
 -- Worlds that stand on a disk.
-use Rattle.std.proofs.Common.{◌≡◌, ℕ, ◌+◌, min, [], Bool, true, false, Option, Some, None, List, ◌∷◌, ◌++◌, refl, sym, ap, subst, ◌∙◌, inl, inr}
+use Rattle.std.proofs.Common.{◌≡◌, ℕ, ◌+◌, min, [], Bool, true, false, Option, None, List, refl, sym, ap, subst, ◌∙◌}
 use Rattle.std.specs.Prelude.{Result, Ok, Err, OnErr}
 use Rattle.delf_disk.specs.Areas.{Areas}
 use Rattle.delf_disk.specs.Images.{After, Same}
@@ -10,7 +10,7 @@ use Rattle.delf_model.specs.declared.entry.Entry.{Entry}
 use Rattle.delf_model.specs.RuleSet.{RuleSet}
 use Rattle.delf_model.specs.Legal.{Legal, greatest_moment}
 use Rattle.delf_model.specs.Payloads.{Payloads}
-use Rattle.store_laws.specs.Moves.{RestIn, StandsFor}
+use Rattle.store_laws.specs.Moves.{RestIn}
 use Rattle.store_laws.proofs.Appends.{rest_stand}
 use Rattle.delf_book.specs.Parts.{Interrupted}
 use Rattle.delf_book.specs.Books.{Booked, Fell}

@@ -1,13 +1,12 @@
 -- Steps that are made one by one, said of the world.
-use Rattle.std.proofs.Common.{◌≡◌, ◌⊎◌, ℕ, zero, suc, ◌+◌, ◌<◌, ◌≤◌, Bool, true, false, Option, Some, None, List, [], ◌∷◌, ◌++◌, length, refl, sym, ap, subst, ◌∙◌, inl, inr, arith, add-one}
-use Rattle.std.specs.Prelude.{Result, Ok, Err, slice_get}
+use Rattle.std.proofs.Common.{◌≡◌, ℕ, ◌+◌, ◌<◌, ◌≤◌, true, false, Some, None, List, [], refl, sym, ap, subst, ◌∙◌, inl, inr, arith, add-one}
+use Rattle.std.specs.Prelude.{Ok, Err}
 use Rattle.delf_disk.specs.Areas.{Areas}
 use Rattle.delf_disk.specs.Causes.{Rose}
 use Rattle.delf_model.specs.declared.entry.Entry.{Entry}
 use Rattle.delf_model.specs.declared.entry.What.{What}
 use Rattle.delf_model.specs.declared.script.Command.TheVariants.{Work}
-use Rattle.delf_model.specs.State.{State, after, position_of}
-use Rattle.delf_model.specs.Order.{first_step}
+use Rattle.delf_model.specs.State.{position_of}
 use Rattle.delf_model.specs.Legal.{Legal, moment_of}
 use Rattle.delf_model.specs.Payloads.{Payloads, payload_at, payloads_after}
 use Rattle.store_laws.specs.Stores.{digest}
@@ -16,7 +15,7 @@ use Rattle.delf_book.specs.Parts.{Interrupted}
 use Rattle.delf_book.specs.declared.answers.Worked.TheVariants as worked
 use Rattle.delf_book.specs.declared.answers.StepFault.TheVariants as fault
 use Rattle.delf_book.specs.Books.{Booked, state_in}
-use Rattle.delf_book.specs.Steps.{Steps, Idles, InterruptsStep, MeetsDamage, LacksMemory, StepIsSafe, PutsItem, PutsSealed, step_entry}
+use Rattle.delf_book.specs.Steps.{Steps, Idles, InterruptsStep, MeetsDamage, StepIsSafe, PutsSealed, step_entry}
 use Rattle.delf_model.specs.declared.schema.Schema.{Schema}
 use Rattle.job_report.specs.declared.work.WorkEnd.{WorkEnd}
 use Rattle.job_report.specs.declared.work.WorkEnd.TheVariants as work_end
@@ -24,7 +23,7 @@ use Rattle.job_report.specs.Texts.{work_text}
 use Rattle.script_runner.specs.Serial.{next_step, MakesSteps, StepsTo, PutsDamaged}
 use Rattle.script_runner.specs.Serial as serial
 use Rattle.script_runner.specs.Standing.{Carried, StepsCarried, HaltedAt}
-use Rattle.script_runner.specs.Worlds.{World, StandsOn, IsHeld, world_of, state_of, now_of, with_entry, fallen, interrupted}
+use Rattle.script_runner.specs.Worlds.{World, StandsOn, IsHeld, world_of, state_of, now_of, with_entry, interrupted}
 use Rattle.script_runner.proofs.Standing.{stands_held, up_stands, fell_world, fell_stands}
 use Rattle.script_runner.proofs.Calls.{grew_world, grew_stands}
 

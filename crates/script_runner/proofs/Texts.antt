@@ -1,11 +1,8 @@
 -- How a script ends, from what its commands came to.
-use Rattle.std.proofs.Common.{◌≡◌, ◌≢◌, ◌⊎◌, ℕ, ◌+◌, ◌<◌, ◌≤◌, Bool, true, false, Option, Some, None, List, [], ◌∷◌, ◌++◌, length, get_or, take, refl, sym, ap, subst, ◌∙◌, inl, inr, arith, IsTrue, append_assoc, append-nil}
-use Rattle.std.specs.Prelude.{slice_get}
+use Rattle.std.proofs.Common.{◌≡◌, ℕ, ◌+◌, ◌<◌, Some, List, [], ◌++◌, length, get_or, take, refl, sym, ap, subst, ◌∙◌, inl, inr, append_assoc, append-nil}
 use Rattle.delf_disk.specs.Areas.{Areas}
-use Rattle.delf_disk.specs.Causes.{Rose}
 use Rattle.delf_model.specs.declared.schema.Schema.{Schema}
 use Rattle.delf_model.specs.declared.script.Command.{Command}
-use Rattle.delf_model.specs.declared.script.Command.TheVariants.{Crash}
 use Rattle.delf_model.specs.Legal.{Legal}
 use Rattle.delf_model.specs.Sound.{Sound}
 use Rattle.delf_model.specs.Payloads.{Payloads}
@@ -15,13 +12,13 @@ use Rattle.delf_recovery.specs.declared.fault.OpenFault.TheVariants as fault
 use Rattle.job_report.specs.Texts.{down_text}
 use Rattle.script_runner.specs.declared.status.Status.{Status}
 use Rattle.script_runner.specs.declared.status.Status.TheVariants.{Done, Usage, BadDocument, ReadFault, WriteFault, OutOfMemory, Down, BadStore}
-use Rattle.script_runner.specs.Endings.{EndText, UnopenedText, UnopenedCause, unopened_line}
+use Rattle.script_runner.specs.Endings.{EndText, UnopenedText, UnopenedCause}
 use Rattle.script_runner.specs.Openings.{Stops, StopCounts}
 use Rattle.script_runner.specs.Outcomes.{IsCut, Ran, IsWhole, IsCutScript, Starves, IsStarved, IsDown, ScriptText, HasSound}
 use Rattle.script_runner.specs.Outcomes as outcome
-use Rattle.script_runner.specs.Serial.{Serves, Script}
+use Rattle.script_runner.specs.Serial.{Script}
 use Rattle.script_runner.specs.Standing.{Carried, HaltedAt, Reached}
-use Rattle.script_runner.specs.Worlds.{World, StandsOn, IsHeld, world_of}
+use Rattle.script_runner.specs.Worlds.{World, StandsOn, world_of}
 use Rattle.script_runner.proofs.Ends.{none_reached, more_reached, got}
 use Rattle.script_runner.proofs.Standing.{stands_held}
 

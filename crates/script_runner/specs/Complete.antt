@@ -9,7 +9,7 @@ use Rattle.entry_codec.specs.EntryHead.{AreEntries}
 use Rattle.store_laws.specs.Stores.{StandBut}
 use Rattle.script_runner.specs.declared.document.Document.{Document}
 use Rattle.script_runner.specs.declared.status.Status.{Status}
-use Rattle.script_runner.specs.declared.status.Status.TheVariants.{Done, Usage, BadDocument, ReadFault, WriteFault, OutOfMemory, Down, BadStore}
+use Rattle.script_runner.specs.declared.status.Status.TheVariants.{Done, Usage, OutOfMemory}
 use Rattle.script_runner.specs.declared.words.Request.{Request}
 use Rattle.script_runner.specs.declared.words.Request.TheVariants.{Run, Check, Load}
 use Rattle.script_runner.specs.Documents.{IsDocument}

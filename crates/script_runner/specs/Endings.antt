@@ -8,7 +8,7 @@ use Rattle.job_report.specs.Texts.{down_text}
 use Rattle.delf_recovery.specs.declared.fault.OpenFault.{OpenFault}
 use Rattle.delf_recovery.specs.declared.fault.OpenFault.TheVariants as fault
 use Rattle.script_runner.specs.declared.status.Status.{Status}
-use Rattle.script_runner.specs.declared.status.Status.TheVariants.{Done, Usage, BadDocument, ReadFault, WriteFault, OutOfMemory, Down, BadStore}
+use Rattle.script_runner.specs.declared.status.Status.TheVariants.{Done, WriteFault, OutOfMemory, Down, BadStore}
 use Rattle.script_runner.specs.Outcomes.{IsCut, bad_text}
 use Rattle.script_runner.specs.Worlds.{World, IsHeld}
 

@@ -1,12 +1,12 @@
 -- What a load leaves in the sink and on the disk: it puts one line, behind the last settling.
-use Rattle.std.specs.Prelude.{◌≡◌, ◌⊎◌, ℕ, Option, List, ◌++◌, length}
+use Rattle.std.specs.Prelude.{◌≡◌, ◌⊎◌, ℕ, List, ◌++◌, length}
 use Rattle.delf_disk.specs.Areas.{Areas}
 use Rattle.delf_model.specs.declared.schema.Schema.{Schema}
 use Rattle.delf_model.specs.declared.script.Command.{Command}
 use Rattle.job_report.specs.Texts.{down_text}
 use Rattle.script_runner.specs.declared.document.Document.{Document}
 use Rattle.script_runner.specs.declared.status.Status.{Status}
-use Rattle.script_runner.specs.declared.status.Status.TheVariants.{Done, Usage, BadDocument, ReadFault, WriteFault, OutOfMemory, Down, BadStore}
+use Rattle.script_runner.specs.declared.status.Status.TheVariants.{Done, WriteFault, OutOfMemory, Down}
 use Rattle.script_runner.specs.Endings.{Settles, StaysDown, FallsAtEnd}
 use Rattle.script_runner.specs.Loads.{loaded_line}
 use Rattle.script_runner.specs.Outcomes.{IsCut, Ran, HasSound, Starves, OpenedText}

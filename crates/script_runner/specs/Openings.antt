@@ -11,7 +11,7 @@ use Rattle.delf_recovery.specs.declared.fault.OpenFault.{OpenFault}
 use Rattle.delf_recovery.specs.declared.fault.OpenFault.TheVariants.{DiskFault, OutOfMemory, BadStore}
 use Rattle.script_runner.specs.Orders.{Gives}
 use Rattle.script_runner.specs.Standing.{Halted}
-use Rattle.script_runner.specs.Worlds.{World, StandsOn, IsHeld, world_of}
+use Rattle.script_runner.specs.Worlds.{StandsOn, IsHeld, world_of}
 
 -- the count of faults stays, but where a disk fault is answered, where it rises
 abbrev pub CountsOpen : ℕ → ℕ → OpenFault → Type 0

@@ -1,4 +1,4 @@
-use Rattle.script_runner.proofs.Calls.{accepted_carries, accepted_halts, accepted_falls, refused_carries, refused_halts, refused_rules, refused_falls, refusal_named, if_ok, ok_is, on_err}
+use Rattle.script_runner.proofs.Calls.{accepted_carries, accepted_halts, refused_carries, refused_halts, refused_rules, refused_falls, refusal_named, if_ok, ok_is, on_err}
 use Rattle.std.proofs.Common.{ℕ, ap, ◌∙◌}
 use Rattle.job_report.specs.Texts.{refusal_text}
 use Rattle.script_runner.specs.Serial.{refusal_name}

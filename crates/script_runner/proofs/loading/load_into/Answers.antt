@@ -1,4 +1,4 @@
-use Rattle.std.proofs.Common.{◌≡◌, ℕ, List, refl, sym, subst, rules, ◌∙◌, arith, min}
+use Rattle.std.proofs.Common.{◌≡◌, ℕ, List, subst, rules, ◌∙◌, arith, min}
 use Rattle.delf_disk.specs.Causes.{Rose}
 use Rattle.delf_model.specs.declared.script.Command.{Command}
 use Rattle.delf_model.specs.Legal.{greatest_moment}

@@ -1,4 +1,4 @@
-use Rattle.std.proofs.Common.{◌≡◌, refl, sym, subst, ◌∙◌, arith}
+use Rattle.std.proofs.Common.{refl, sym, subst, ◌∙◌, arith}
 use Rattle.script_runner.specs.Loads.{IsStill}
 use Rattle.script_runner.specs.Worlds.{world_of}
 use Rattle.script_runner.proofs.Calls.{on_err}

@@ -1,4 +1,4 @@
-use Rattle.std.proofs.Common.{◌≡◌, inl, inr, refl}
+use Rattle.std.proofs.Common.{inl, inr}
 use Rattle.script_runner.specs.Worlds.{world_of}
 use Rattle.script_runner.proofs.LoadSteps.{load_ended, load_script, load_end_cause}
 use Rattle.script_runner.proofs.Moves.{plain_then}

@@ -1,7 +1,6 @@
 use Rattle.std.proofs.Common.{refl, sym, ap, ◌∙◌, arith}
 use Rattle.delf_model.specs.declared.call.JobLine.{JobLine}
 use Rattle.delf_model.specs.State.{State}
-use Rattle.delf_model.specs.Report.{job_at}
 use Rattle.std.specs.Prelude.{slice_get}
 use Rattle.delf_book.specs.Books.{state_in}
 use Rattle.script_runner.proofs.Counts.{jobs_within}

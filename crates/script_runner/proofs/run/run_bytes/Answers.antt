@@ -1,4 +1,4 @@
-use Rattle.std.proofs.Common.{◌≡◌, ℕ, refl, subst, rules}
+use Rattle.std.proofs.Common.{◌≡◌, ℕ, subst, rules}
 use Rattle.delf_disk.specs.Plain.{Plain}
 use Rattle.script_runner.specs.Outcomes.{DocumentText}
 use Rattle.script_runner.specs.Requests.{moment_of_start}

@@ -1,9 +1,9 @@
-use Rattle.std.proofs.Common.{◌≡◌, ℕ, List, take, length, get_or, IsTrue, refl, sym, ap, subst, ◌++◌, ◌∙◌, inl, inr, arith}
+use Rattle.std.proofs.Common.{◌≡◌, ℕ, List, take, IsTrue, refl, sym, ap, subst, ◌∙◌, arith}
 use Rattle.delf_model.specs.declared.script.Command.{Command}
 use Rattle.delf_io.specs.Faults.{Rose}
 use Rattle.script_runner.specs.Endings.{UnopenedCause}
 use Rattle.script_runner.specs.Worlds.{world_of}
-use Rattle.script_runner.proofs.Causes.{stopped_cause, stopped_orders, cut_orders, rose_from, falls_next}
+use Rattle.script_runner.proofs.Causes.{stopped_cause, stopped_orders, cut_orders, falls_next}
 use Rattle.script_runner.proofs.Ends.{orders_none, orders_more}
 use Rattle.script_runner.proofs.Loops.{take_past}
 use Rattle.script_runner.proofs.Moves.{plain_then}

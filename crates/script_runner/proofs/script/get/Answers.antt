@@ -1,10 +1,10 @@
 use Rattle.std.proofs.Common.{sym, ◌∙◌}
 use Rattle.std.proofs.lemmas.Result.{IfOk-weaker}
 use Rattle.delf_model.specs.Graph.{object_at}
-use Rattle.script_runner.specs.Serial.{row_found, graph_lines, report_line}
+use Rattle.script_runner.specs.Serial.{row_found}
 use Rattle.script_runner.specs.Worlds.{state_of}
 use Rattle.script_runner.proofs.Calls.{ok_is, on_err}
-use Rattle.script_runner.proofs.Moves.{reads_out, reads_held, reads_kind, reads_rules, reads_falls, down_out, down_held}
+use Rattle.script_runner.proofs.Moves.{reads_out, reads_held}
 use Rattle.script_runner.proofs.script.get.Goals as goal
 
 pub returns-clause-serves : goal.returns-clause-serves

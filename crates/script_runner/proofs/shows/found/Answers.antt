@@ -1,7 +1,6 @@
-use Rattle.std.proofs.Common.{◌≡◌, ℕ, Some, List, Option, sym, ap, subst, ◌∙◌}
+use Rattle.std.proofs.Common.{ℕ, Some, Option, sym, ap, ◌∙◌}
 use Rattle.std.proofs.lemmas.Result.{IfOk-weaker}
 use Rattle.delf_model.specs.declared.rows.ObjectRow.{ObjectRow}
-use Rattle.delf_model.specs.Graph.{object_at}
 use Rattle.delf_book.specs.Books.{state_in}
 use Rattle.script_runner.specs.Serial.{row_found}
 use Rattle.script_runner.specs.Worlds.{world_of}

@@ -1,4 +1,4 @@
-use Rattle.std.proofs.Common.{List, ℕ, ap, sym, flat_map, ◌∙◌, rules}
+use Rattle.std.proofs.Common.{ap, flat_map, ◌∙◌, rules}
 use Rattle.std.proofs.lemmas.Result.{IfOk-weaker}
 use Rattle.delf_model.specs.Graph.{Graph}
 use Rattle.script_runner.specs.Serial.{edge_line}

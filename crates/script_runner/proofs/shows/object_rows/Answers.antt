@@ -1,6 +1,5 @@
-use Rattle.std.proofs.Common.{List, ℕ, ap, sym, flat_map, ◌++◌, ◌∙◌, arith, rules}
-use Rattle.live_graph.specs.declared.list_graph.ListGraph.{ListGraph}
-use Rattle.delf_book.specs.Books.{Booked, state_in}
+use Rattle.std.proofs.Common.{List, ℕ, ap, flat_map, ◌++◌, ◌∙◌, arith, rules}
+use Rattle.delf_book.specs.Books.{state_in}
 use Rattle.script_runner.specs.Serial.{object_line}
 use Rattle.script_runner.specs.Worlds.{world_of}
 use Rattle.script_runner.proofs.Finds.{object_listed}
