@@ -71,10 +71,10 @@ fn a_load_prints_what_its_store_holds(rt: HostRuntime) -> Result<(), Fail> {
     loads(
         &rt,
         alloc,
-        "2000",
+        "20000",
         &[],
         Status::Done,
-        "load 2000 objects 1252 edges 3756 history 13321 jobs 250 restored 63\n",
+        "load 20000 objects 12500 edges 37500 history 133125 jobs 2500 restored 625\n",
     )?;
     Ok(())
 }
