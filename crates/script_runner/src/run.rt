@@ -45,9 +45,11 @@ pub const READ_LIMIT: usize = 16_777_217;
 /// The greatest moment.
 const GREATEST_MOMENT: Moment = 999_999_999_999;
 
-/// Runs the program with these words: reads a document from `source`, opens the store on `rig`, makes the commands, and puts
-/// their lines to `sink`. The moment of the start is the one that the words give, or the clock's answer, which is asked for
-/// once the document was accepted. The disk comes back.
+/// Runs the program with these words. `run` reads a document from `source`, opens the store on `rig`, makes the commands, and
+/// puts their lines to `sink`; the moment of the start is the one that the words give, or the clock's answer, which is asked
+/// for once the document was accepted. `check` reads a document, puts its routes and makes no disk call. `load` reads nothing,
+/// makes the script that is generated to a size, settles, and puts one line. Other words are answered by the usage line. The
+/// disk comes back.
 pub fn run_plain<S: Source, K: Sink, R: Rig, C: Clock>(
     alloc: Global,
     words: &[String],

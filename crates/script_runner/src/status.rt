@@ -16,6 +16,7 @@ pub enum Status {
     ReadFault,
     /// The sink failed in the lines of the command with this number, from 0; that command was made, and none after it.
     /// It is 0 for a line before the first command, and the number of all commands for the line of the last settling.
+    /// A load is one command.
     WriteFault { done: u32 },
     /// Want of memory, after so many commands.
     OutOfMemory { done: u32 },
