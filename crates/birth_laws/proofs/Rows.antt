@@ -14,7 +14,10 @@ use Rattle.delf_model.specs.declared.entry.What.{What}
 use Rattle.delf_model.specs.declared.entry.What.TheVariants.{Create, Update, Link, Unlink, Delete, Restore, Expire, Cut, Erase, Put, Purge}
 use Rattle.delf_model.specs.RuleSet.{RuleSet}
 use Rattle.delf_model.specs.Graph.{Graph, has_id, has_key, key_before, same_key, object_at, edge_at, put_object, put_edge, rewritten, is_other_object, is_other_edge, changed}
-use Rattle.delf_model.specs.State.{State, Logged, Handled, start, step, run, after, graph_after, items_after, key_of, edge_item, object_item, handled_at, outcome, judged, put_change, put_unless}
+use Rattle.delf_model.specs.State.{State, Logged, Handled, start}
+use Rattle.delf_model.specs.Step.{step, run, after, graph_after, items_after, edge_item, object_item, handled_at, outcome, put_change, put_unless}
+use Rattle.delf_model.specs.Owners.{key_of}
+use Rattle.delf_model.specs.Puts.{judged}
 use Rattle.delf_model.proofs.Places.{EachItem, each_append, each_at}
 use Rattle.birth_laws.specs.Made.{ObjectMade, EdgeMade, ItemMade, Gives, GivenByEntry, RowsAreMade}
 

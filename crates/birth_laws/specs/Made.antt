@@ -11,7 +11,8 @@ use Rattle.delf_model.specs.declared.entry.What.{What}
 use Rattle.delf_model.specs.declared.entry.What.TheVariants.{Create, Update, Link}
 use Rattle.delf_model.specs.RuleSet.{RuleSet}
 use Rattle.delf_model.specs.Graph.{object_at, edge_at}
-use Rattle.delf_model.specs.State.{Logged, after}
+use Rattle.delf_model.specs.State.{Logged}
+use Rattle.delf_model.specs.Step.{after}
 
 -- the entry at the row's birth created the object with its type and id
 pub record BornByCreate (history : List Entry) (row : ObjectRow) : Type 0 where

@@ -4,7 +4,9 @@ use Rattle.delf_model.specs.declared.rows.Item.{Item}
 use Rattle.delf_model.specs.declared.entry.What.{What}
 use Rattle.delf_model.specs.declared.entry.What.TheVariants.{Create, Update, Link, Unlink, Delete, Restore, Expire, Cut, Erase, Put, Purge}
 use Rattle.delf_model.specs.Graph.{Graph, object_at, edge_at}
-use Rattle.delf_model.specs.State.{Logged, key_of, edge_item, object_item}
+use Rattle.delf_model.specs.State.{Logged}
+use Rattle.delf_model.specs.Owners.{key_of}
+use Rattle.delf_model.specs.Step.{edge_item, object_item}
 
 -- the items that a step adds to those of a history with this graph: one where it erases a row that is there
 abbrev pub logged_by : Graph → What → List Logged

@@ -1,6 +1,6 @@
 ghost use Rattle.std.specs.Prelude.{◌≡◌};
 ghost use Rattle.delf_model.specs.Graph.{edge_at, object_at};
-ghost use Rattle.delf_model.specs.State.{edge_item, object_item, birth_of};
+ghost use Rattle.delf_model.specs.Step.{edge_item, object_item, birth_of};
 ghost use Rattle.delete_step.specs.Logging.{logged_by, first_item};
 
 use delf_model::{EdgeKey, EdgeRow, GraphStore, Item, Job, ObjectId, What};

@@ -12,8 +12,11 @@ use Rattle.delf_model.specs.declared.entry.What.TheVariants.{Create, Update, Lin
 use Rattle.delf_model.specs.declared.rows.EdgeKey.{EdgeKey}
 use Rattle.delf_model.specs.Graph.{edge_stands}
 use Rattle.delf_model.specs.RuleSet.{RuleSet}
-use Rattle.delf_model.specs.State.{State, unlink_start, key_of, find_job, first_of_two}
-use Rattle.delf_model.specs.Legal.{job_taken_if, absent, condemned, no_edge, refused, first_refusal, too_long, answered, answered_by, asked, restore_of, reply, next_tag, payload_limit}
+use Rattle.delf_model.specs.State.{State, find_job}
+use Rattle.delf_model.specs.Owners.{unlink_start, key_of}
+use Rattle.std.specs.Option.{option_or}
+use Rattle.delf_model.specs.Reply.{job_taken_if, absent, condemned, no_edge, refused, first_refusal, too_long, answered, answered_by, asked, restore_of, reply, next_tag}
+use Rattle.delf_model.specs.Room.{payload_limit}
 use Rattle.entry_codec.specs.EntryHead.{IsBounded}
 use Rattle.payload_laws.specs.Holders.{record_size, position_taken}
 use Rattle.delf_book.specs.Books.{HasNumbers, given_by, EdgeStands}
@@ -34,7 +37,7 @@ made w what None is = (refl, cc)
 made w what (Some refusal) is = absurd (cc is)
 
 -- no refusal holds, so the payload is not too long
-none_first : (o other : Option Refusal) → first_of_two o other ≡ None → o ≡ None
+none_first : (o other : Option Refusal) → option_or o other ≡ None → o ≡ None
 none_first None other is = refl
 none_first (Some x) other is = absurd (cc is)
 
@@ -45,7 +48,7 @@ short_enough size none = by_test (ltb 512 size) refl none
     by_test true is none = absurd (cc none)
     by_test false is none = grind (arith, nat_tests)
 
-none_rest : (o other : Option Refusal) → first_of_two o other ≡ None → other ≡ None
+none_rest : (o other : Option Refusal) → option_or o other ≡ None → other ≡ None
 none_rest None other is = is
 none_rest (Some x) other is = absurd (cc is)
 

@@ -9,7 +9,8 @@ use Rattle.delf_book.specs.Writing.{Rests}
 use Rattle.delf_model.specs.declared.call.Call.{Call}
 use Rattle.delf_model.specs.declared.call.Refusal.{Refusal}
 use Rattle.delf_model.specs.declared.entry.What.{What}
-use Rattle.delf_model.specs.Legal.{moment_of, reply}
+use Rattle.delf_model.specs.Room.{moment_of}
+use Rattle.delf_model.specs.Reply.{reply}
 use Rattle.delf_book.specs.Books.{Booked, state_in, HasNumbers, given_by, IsCrashSafe, IsDurable}
 use Rattle.delf_book.proofs.Asking.{IsCallEntry, call_entry}
 

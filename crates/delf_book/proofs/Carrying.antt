@@ -10,7 +10,8 @@ use Rattle.payload_laws.proofs.Members.{found_in}
 use Rattle.store_laws.proofs.Needs.{row_needed, edge_needed}
 use Rattle.delf_model.specs.declared.entry.Entry.{Entry}
 use Rattle.delf_model.specs.RuleSet.{RuleSet}
-use Rattle.delf_model.specs.State.{State, step, after}
+use Rattle.delf_model.specs.State.{State}
+use Rattle.delf_model.specs.Step.{step, after}
 use Rattle.delf_model.specs.Legal.{Legal, is_legal}
 use Rattle.delf_model.specs.Payloads.{is_needed, Journal, last_carrier}
 use Rattle.delf_model.proofs.Runs.{after_push}

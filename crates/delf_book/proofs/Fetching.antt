@@ -17,8 +17,11 @@ use Rattle.delf_model.specs.declared.entry.What.{What}
 use Rattle.delf_model.specs.declared.entry.What.TheVariants.{Create, Update, Link, Put}
 use Rattle.delf_model.specs.declared.rows.Item.{Item}
 use Rattle.delf_model.specs.RuleSet.{RuleSet}
-use Rattle.delf_model.specs.State.{State, Logged, start, after, size_of as size_of_item, position_of}
-use Rattle.delf_model.specs.Legal.{Legal, is_legal, is_allowed, refusals, payload_limit}
+use Rattle.delf_model.specs.State.{State, Logged, start, size_of as size_of_item, position_of}
+use Rattle.delf_model.specs.Step.{after}
+use Rattle.delf_model.specs.Legal.{Legal, is_legal, is_allowed}
+use Rattle.delf_model.specs.Reply.{refusals}
+use Rattle.delf_model.specs.Room.{payload_limit}
 use Rattle.delf_model.specs.Payloads.{Payloads, payload_at}
 use Rattle.delf_model.proofs.Lines.{none_of, short, allowed_of}
 use Rattle.delf_model.proofs.Runs.{legal_at}

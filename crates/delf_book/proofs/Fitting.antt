@@ -14,8 +14,13 @@ use Rattle.delf_model.specs.declared.entry.What.{What}
 use Rattle.delf_model.specs.declared.entry.What.TheVariants.{Create, Update, Link, Unlink, Delete, Restore, Expire, Cut, Erase, Put, Purge}
 use Rattle.delf_model.specs.RuleSet.{RuleSet}
 use Rattle.delf_model.specs.Graph.{Graph, Change, Same, PutsObject, TakesObject, RewritesObject, PutsEdge, TakesEdge, changed, put_object, put_edge, rewritten, key_before, same_key, has_id, has_key, object_at, edge_at, is_other_object, is_other_edge}
-use Rattle.delf_model.specs.State.{State, Logged, Handled, start, step, run, after, change_of, put_change, put_unless, judged, items_after, handled_at, edge_item, object_item, outcome, key_of}
-use Rattle.delf_model.specs.Legal.{Legal, is_legal, is_allowed, is_numbered, payload_limit, refusals}
+use Rattle.delf_model.specs.State.{State, Logged, Handled, start}
+use Rattle.delf_model.specs.Step.{step, run, after, change_of, put_change, put_unless, items_after, handled_at, edge_item, object_item, outcome}
+use Rattle.delf_model.specs.Puts.{judged}
+use Rattle.delf_model.specs.Owners.{key_of}
+use Rattle.delf_model.specs.Legal.{Legal, is_legal, is_allowed, is_numbered}
+use Rattle.delf_model.specs.Room.{payload_limit}
+use Rattle.delf_model.specs.Reply.{refusals}
 use Rattle.delf_model.proofs.Lines.{allowed_of, numbered_of, none_of, short}
 use Rattle.delf_model.proofs.Runs.{good_run}
 

@@ -13,7 +13,9 @@ use Rattle.delf_model.specs.declared.entry.Entry.{Entry}
 use Rattle.delf_model.specs.declared.entry.What.{What}
 use Rattle.delf_model.specs.declared.entry.What.TheVariants.{Put}
 use Rattle.delf_model.specs.RuleSet.{RuleSet}
-use Rattle.delf_model.specs.State.{State, Logged, after, size_of, position_of, judged}
+use Rattle.delf_model.specs.State.{State, Logged, size_of, position_of}
+use Rattle.delf_model.specs.Step.{after}
+use Rattle.delf_model.specs.Puts.{judged}
 use Rattle.delf_model.specs.Legal.{Legal, is_legal, is_allowed}
 use Rattle.delf_model.specs.Report.{was_put}
 use Rattle.delf_model.specs.Payloads.{Payloads, Vault, is_needed, is_purged, object_needs, edge_needs, item_needs, keeps_payload}

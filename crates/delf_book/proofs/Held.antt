@@ -6,7 +6,8 @@ use Rattle.delf_disk.specs.Areas.{Areas}
 use Rattle.gate_log.specs.Records.{Record}
 use Rattle.delf_model.specs.declared.entry.Entry.{Entry}
 use Rattle.delf_model.specs.RuleSet.{RuleSet}
-use Rattle.delf_model.specs.State.{State, after}
+use Rattle.delf_model.specs.State.{State}
+use Rattle.delf_model.specs.Step.{after}
 use Rattle.delf_model.specs.Legal.{Legal}
 use Rattle.delf_model.specs.Payloads.{Payloads, is_needed, is_at, bytes_of_pair, last_carrier}
 use Rattle.payload_laws.proofs.Moves.{payloads_held}

@@ -14,7 +14,8 @@ use Rattle.delf_model.specs.declared.entry.What.{What}
 use Rattle.delf_model.specs.declared.entry.What.TheVariants.{Create, Update, Link, Unlink, Delete, Restore, Expire, Cut, Erase, Put, Purge}
 use Rattle.delf_model.specs.RuleSet.{RuleSet}
 use Rattle.delf_model.specs.Graph.{has_id, has_key, object_at, edge_at}
-use Rattle.delf_model.specs.State.{State, Logged, after, job_of, position_of}
+use Rattle.delf_model.specs.State.{State, Logged, job_of, position_of}
+use Rattle.delf_model.specs.Step.{after}
 use Rattle.delf_model.specs.Legal.{Legal}
 use Rattle.delf_model.specs.Report.{was_put}
 use Rattle.delf_model.specs.Payloads.{is_purged, keeps_payload, object_needs, edge_needs, item_needs, is_needed, Carrier, Journal, Vault, last_carrier}

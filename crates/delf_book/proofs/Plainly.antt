@@ -7,7 +7,7 @@ use Rattle.delf_disk.specs.Areas.{Areas}
 use Rattle.gate_log.specs.Records.{Record}
 use Rattle.delf_model.specs.declared.entry.Entry.{Entry}
 use Rattle.delf_model.specs.RuleSet.{RuleSet}
-use Rattle.delf_model.specs.State.{after}
+use Rattle.delf_model.specs.Step.{after}
 use Rattle.delf_model.specs.Legal.{Legal, is_legal}
 use Rattle.delf_model.specs.Payloads.{Payloads}
 use Rattle.delf_model.proofs.Runs.{Legal_push}

@@ -10,7 +10,9 @@ use Rattle.delf_model.specs.declared.entry.Entry.{Entry}
 use Rattle.delf_model.specs.declared.entry.What.{What}
 use Rattle.delf_model.specs.declared.entry.What.TheVariants.{Put}
 use Rattle.delf_model.specs.RuleSet.{RuleSet}
-use Rattle.delf_model.specs.State.{State, Logged, step, after, judged, position_of}
+use Rattle.delf_model.specs.State.{State, Logged, position_of}
+use Rattle.delf_model.specs.Step.{step, after}
+use Rattle.delf_model.specs.Puts.{judged}
 use Rattle.delf_model.specs.Legal.{Legal, is_legal, is_allowed}
 use Rattle.delf_model.specs.Report.{was_put}
 use Rattle.delf_model.specs.Payloads.{is_needed, Journal, Vault, last_carrier}

@@ -2,7 +2,8 @@
 use Rattle.std.proofs.Common.{ℕ, ◌+◌, ◌≤◌, List, [], ◌∷◌, length, take, ap, arith, length-append, length-take}
 use Rattle.delf_model.specs.declared.entry.Entry.{Entry}
 use Rattle.delf_model.specs.RuleSet.{RuleSet}
-use Rattle.delf_model.specs.State.{State, start, step, run, after, items_after}
+use Rattle.delf_model.specs.State.{State, start}
+use Rattle.delf_model.specs.Step.{step, run, after, items_after}
 use Rattle.store_laws.proofs.Items.{items_split, new_few}
 use Rattle.store_laws.specs.Moves.{new_items}
 

@@ -20,7 +20,8 @@ use Rattle.delf_model.specs.declared.entry.Entry.{Entry}
 use Rattle.delf_model.specs.declared.entry.What.{What}
 use Rattle.delf_model.specs.declared.entry.What.TheVariants.{Cut, Erase, Put}
 use Rattle.delf_model.specs.RuleSet.{RuleSet}
-use Rattle.delf_model.specs.State.{State, Logged, after, position_of, size_of as item_payload}
+use Rattle.delf_model.specs.State.{State, Logged, position_of, size_of as item_payload}
+use Rattle.delf_model.specs.Step.{after}
 use Rattle.delf_model.specs.Legal.{Legal, is_legal}
 use Rattle.delf_model.specs.Payloads.{Payloads, Journal, last_carrier, payload_at, is_needed}
 use Rattle.delf_model.proofs.Good.{good_after}

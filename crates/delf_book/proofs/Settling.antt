@@ -13,7 +13,7 @@ use Rattle.gate_log.specs.Logs.{Log, Stands, StandIn}
 use Rattle.gate_log.specs.Steps.{MaySettle, Settles}
 use Rattle.delf_model.specs.declared.entry.Entry.{Entry}
 use Rattle.delf_model.specs.RuleSet.{RuleSet}
-use Rattle.delf_model.specs.State.{after}
+use Rattle.delf_model.specs.Step.{after}
 use Rattle.delf_model.specs.Payloads.{Payloads}
 use Rattle.store_laws.specs.Logged.{held, behind, are_zeros, IsLog}
 use Rattle.store_laws.specs.Stores.{Hold, Clean, Settled, AreScrubbed, journal_mark, vault_mark, journal_of, vault_of}

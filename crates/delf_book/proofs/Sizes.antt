@@ -15,7 +15,8 @@ use Rattle.delf_model.specs.declared.entry.Entry.{Entry}
 use Rattle.delf_model.specs.declared.entry.What.{What}
 use Rattle.delf_model.specs.declared.rows.Item.{Item}
 use Rattle.delf_model.specs.RuleSet.{RuleSet}
-use Rattle.delf_model.specs.State.{State, Logged, start, step, run, after, items_after}
+use Rattle.delf_model.specs.State.{State, Logged, start}
+use Rattle.delf_model.specs.Step.{step, run, after, items_after}
 use Rattle.delf_model.specs.Payloads.{Payloads}
 use Rattle.delf_model.proofs.Runs.{after_push}
 use Rattle.payload_laws.specs.Holders.{record_size, position_taken}

@@ -16,8 +16,10 @@ use Rattle.delf_model.specs.declared.entry.What.{What}
 use Rattle.delf_model.specs.declared.entry.What.TheVariants.{Create, Update, Link, Put}
 use Rattle.delf_model.specs.RuleSet.{RuleSet}
 use Rattle.delf_model.specs.Graph.{has_id, has_key, object_at, edge_at}
-use Rattle.delf_model.specs.State.{State, start, step, run, after}
-use Rattle.delf_model.specs.Legal.{Legal, is_allowed, refusals}
+use Rattle.delf_model.specs.State.{State, start}
+use Rattle.delf_model.specs.Step.{step, run, after}
+use Rattle.delf_model.specs.Legal.{Legal, is_allowed}
+use Rattle.delf_model.specs.Reply.{refusals}
 use Rattle.delf_model.specs.Payloads.{Payloads, is_needed, Journal, last_carrier, payload_at}
 use Rattle.delf_model.proofs.Lines.{allowed_of, none_of, short}
 use Rattle.delf_model.proofs.Runs.{legal_at}

@@ -16,8 +16,11 @@ use Rattle.delf_model.specs.declared.entry.What.{What}
 use Rattle.delf_model.specs.declared.entry.What.TheVariants.{Cut, Erase, Put, Purge}
 use Rattle.delf_model.specs.RuleSet.{RuleSet}
 use Rattle.delf_model.specs.Graph.{Graph, has_id, has_key, object_at, edge_at, edge_stands, is_touched}
-use Rattle.delf_model.specs.State.{State, start, step, run, after, edge_item, object_item, birth_of, key_of, position_of, is_owned_by}
-use Rattle.delf_model.specs.Legal.{Legal, is_legal, is_allowed, payload_limit}
+use Rattle.delf_model.specs.State.{State, start, position_of, is_owned_by}
+use Rattle.delf_model.specs.Step.{step, run, after, edge_item, object_item, birth_of}
+use Rattle.delf_model.specs.Owners.{key_of}
+use Rattle.delf_model.specs.Legal.{Legal, is_legal, is_allowed}
+use Rattle.delf_model.specs.Room.{payload_limit}
 use Rattle.delf_model.specs.Payloads.{Carrier, Journal, last_carrier, position_of_edge, position_of_object}
 use Rattle.delf_model.proofs.Lines.{allowed_of}
 use Rattle.delf_model.proofs.Good.{good_after}

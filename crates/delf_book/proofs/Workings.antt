@@ -2,7 +2,7 @@
 use Rattle.std.proofs.Common.{◌≡◌, ℕ, Some, ap, ◌∙◌, subst}
 use Rattle.std.specs.Prelude.{Option}
 use Rattle.delf_model.specs.declared.entry.What.{What}
-use Rattle.delf_model.specs.Legal.{moment_of}
+use Rattle.delf_model.specs.Room.{moment_of}
 use Rattle.delf_model.specs.Order.{first_step}
 use Rattle.delf_book.specs.Books.{Booked, state_in}
 

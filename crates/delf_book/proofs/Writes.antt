@@ -12,7 +12,8 @@ use Rattle.gate_log.specs.Steps.{MayAdd, Adds, MayScrub, Scrubs}
 use Rattle.entry_codec.specs.EntryHead.{entry_head}
 use Rattle.delf_model.specs.declared.entry.Entry.{Entry}
 use Rattle.delf_model.specs.RuleSet.{RuleSet}
-use Rattle.delf_model.specs.State.{State, after}
+use Rattle.delf_model.specs.State.{State}
+use Rattle.delf_model.specs.Step.{after}
 use Rattle.delf_model.specs.Legal.{Legal, is_legal}
 use Rattle.delf_model.specs.Payloads.{Payloads, Carrier, Journal, Vault}
 use Rattle.payload_laws.specs.Holders.{IsLive, scrubbed_by}

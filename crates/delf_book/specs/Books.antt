@@ -11,9 +11,11 @@ use Rattle.delf_model.specs.declared.entry.Entry.{Entry}
 use Rattle.delf_model.specs.declared.entry.What.{What}
 use Rattle.delf_model.specs.declared.entry.What.TheVariants.{Create, Update, Link, Unlink, Delete, Restore, Expire, Cut, Erase, Put, Purge}
 use Rattle.delf_model.specs.RuleSet.{RuleSet}
-use Rattle.delf_model.specs.State.{State, after, start_of, key_of}
+use Rattle.delf_model.specs.State.{State}
+use Rattle.delf_model.specs.Step.{after}
+use Rattle.delf_model.specs.Owners.{start_of, key_of}
 use Rattle.delf_model.specs.Graph.{edge_stands}
-use Rattle.delf_model.specs.Legal.{reply}
+use Rattle.delf_model.specs.Reply.{reply}
 use Rattle.delf_model.specs.Report.{items_of}
 use Rattle.delf_model.specs.Payloads.{Payloads, payloads_after}
 use Rattle.store_laws.specs.Stores.{digest}

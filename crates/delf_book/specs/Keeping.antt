@@ -12,7 +12,9 @@ use Rattle.delf_model.specs.declared.entry.Entry.{Entry}
 use Rattle.delf_model.specs.declared.entry.What.{What}
 use Rattle.delf_model.specs.declared.entry.What.TheVariants.{Create, Update, Link, Unlink, Delete, Restore, Expire, Cut, Erase, Put, Purge}
 use Rattle.delf_model.specs.RuleSet.{RuleSet}
-use Rattle.delf_model.specs.State.{State, Logged, start, step, after, size_of, judged}
+use Rattle.delf_model.specs.State.{State, Logged, start, size_of}
+use Rattle.delf_model.specs.Step.{step, after}
+use Rattle.delf_model.specs.Puts.{judged}
 use Rattle.delf_model.specs.Payloads.{Payloads, is_needed, last_carrier, Journal}
 use Rattle.payload_laws.specs.Holders.{record_size}
 use Rattle.store_laws.specs.Stores.{Clean, payload_in, seals_of, journal_of, vault_of}

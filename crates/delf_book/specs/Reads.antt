@@ -9,7 +9,8 @@ use Rattle.delf_model.specs.declared.rows.Item.TheVariants as item
 use Rattle.delf_model.specs.declared.entry.What.{What}
 use Rattle.delf_model.specs.declared.entry.What.TheVariants.{Create, Update, Link, Unlink, Delete, Restore, Expire, Cut, Erase, Put, Purge}
 use Rattle.delf_model.specs.Graph.{object_at, edge_at}
-use Rattle.delf_model.specs.State.{State, key_of}
+use Rattle.delf_model.specs.State.{State}
+use Rattle.delf_model.specs.Owners.{key_of}
 use Rattle.delf_model.specs.Payloads.{Carrier, Journal, Vault}
 use Rattle.job_table.specs.Table.{item_at}
 use Rattle.payload_laws.specs.Holders.{IsLive, carrier_of_object, carrier_of_edge}

@@ -6,7 +6,8 @@ use Rattle.delf_disk.specs.Moments.{Leaves}
 use Rattle.delf_model.specs.declared.entry.Entry.{Entry}
 use Rattle.delf_model.specs.declared.entry.What.{What}
 use Rattle.delf_model.specs.declared.entry.What.TheVariants.{Put, Purge}
-use Rattle.delf_model.specs.State.{State, Logged, judged, position_of}
+use Rattle.delf_model.specs.State.{State, Logged, position_of}
+use Rattle.delf_model.specs.Puts.{judged}
 use Rattle.delf_model.specs.Order.{first_step}
 use Rattle.delf_model.specs.Payloads.{Payloads, payload_at}
 use Rattle.store_laws.specs.Stores.{digest}

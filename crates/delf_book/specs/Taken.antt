@@ -2,7 +2,8 @@
 use Rattle.std.specs.Prelude.{◌≡◌, [], ◌∷◌, Some}
 use Rattle.delf_model.specs.declared.entry.What.{What}
 use Rattle.delf_model.specs.declared.rows.Item.{Item}
-use Rattle.delf_model.specs.State.{State, unhandled, position_of}
+use Rattle.delf_model.specs.State.{State, position_of}
+use Rattle.delf_model.specs.Step.{unhandled}
 use Rattle.delf_model.specs.Payloads.{last_carrier}
 use Rattle.payload_laws.specs.Holders.{position_taken, scrubbed_by}
 use Rattle.store_laws.specs.Moves.{new_items}

@@ -5,7 +5,7 @@ use Rattle.gate_log.specs.Records.{Record}
 use Rattle.entry_codec.specs.EntryHead.{entry_head}
 use Rattle.delf_model.specs.declared.entry.Entry.{Entry}
 use Rattle.delf_model.specs.RuleSet.{RuleSet}
-use Rattle.delf_model.specs.State.{after}
+use Rattle.delf_model.specs.Step.{after}
 use Rattle.delf_model.specs.Legal.{Legal, is_legal}
 use Rattle.delf_model.specs.Payloads.{Payloads, Carrier, Journal, payloads_after}
 use Rattle.store_laws.specs.Stores.{digest, journal_of, vault_of, vault_for, Rest, Hold}

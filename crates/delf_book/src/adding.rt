@@ -3,7 +3,8 @@ ghost use Rattle.std.specs.Prelude.{◌≡◌, ◌+◌, ◌≤◌, ◌<◌, ℕ,
 ghost use Rattle.delf_disk.specs.Causes.{HasCause};
 ghost use Rattle.delf_disk.specs.Plain.{Plain, SameKind};
 ghost use Rattle.entry_codec.specs.EntryHead.{IsBounded};
-ghost use Rattle.delf_model.specs.Legal.{is_legal, greatest_moment, payload_limit};
+ghost use Rattle.delf_model.specs.Legal.{is_legal};
+ghost use Rattle.delf_model.specs.Room.{greatest_moment, payload_limit};
 ghost use Rattle.payload_laws.specs.Holders.{record_size, position_taken, scrubbed_by};
 ghost use Rattle.delf_book.specs.Books.{IsCrashSafe, IsDurable};
 ghost use Rattle.delf_book.specs.Keeping.{KeepsLogs, KeepsCarriers, KeepsAreas, HasRoom, PutsBack};

@@ -1,6 +1,6 @@
 ghost use Rattle.std.specs.Prelude.{◌≡◌, ◌≤◌, length};
 ghost use Rattle.delf_model.specs.declared.TheConstants.{LIMIT};
-ghost use Rattle.delf_model.specs.Legal.{greatest_moment};
+ghost use Rattle.delf_model.specs.Room.{greatest_moment};
 ghost use Rattle.entry_codec.specs.EntryHead.{IsBounded, IsEntry};
 
 use delf_model::{Entry, LIMIT};

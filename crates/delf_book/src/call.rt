@@ -1,7 +1,7 @@
 //! Writing calls.
 ghost use Rattle.std.specs.Prelude.{◌+◌, ◌*◌, ◌≤◌, length};
 ghost use Rattle.delf_disk.specs.Plain.{Plain, SameKind};
-ghost use Rattle.delf_model.specs.Legal.{moment_of};
+ghost use Rattle.delf_model.specs.Room.{moment_of};
 ghost use Rattle.delf_book.specs.Books.{Answers, CallIsSafe, CountsRefusal, HasNumbers, state_in};
 
 use crate::answers::Receipt;

@@ -2,7 +2,8 @@
 ghost use Rattle.std.specs.Prelude.{◌≡◌, ◌≤◌, true, None, Ok, Err, length, vec_capacity, OnOk, OnErr};
 ghost use Rattle.delf_disk.specs.Plain.{Plain, SameKind};
 ghost use Rattle.entry_codec.specs.EntryHead.{IsBounded};
-ghost use Rattle.delf_model.specs.Legal.{is_legal, greatest_moment, payload_limit};
+ghost use Rattle.delf_model.specs.Legal.{is_legal};
+ghost use Rattle.delf_model.specs.Room.{greatest_moment, payload_limit};
 ghost use Rattle.payload_laws.specs.Holders.{record_size, position_taken};
 ghost use Rattle.delf_book.specs.declared.faults.EntryFault.TheVariants.{OutOfMemory};
 ghost use Rattle.delf_book.specs.Books.{IsCrashSafe, IsDurable, CountsEntry, UnlessFailed};

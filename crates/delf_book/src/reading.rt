@@ -10,7 +10,7 @@ ghost use Rattle.delf_model.specs.declared.TheConstants.{LIMIT};
 ghost use Rattle.delf_model.specs.declared.entry.Entry.{Entry};
 ghost use Rattle.delf_model.specs.RuleSet.{RuleSet};
 ghost use Rattle.delf_model.specs.Graph.{object_at, edge_at};
-ghost use Rattle.delf_model.specs.State.{after};
+ghost use Rattle.delf_model.specs.Step.{after};
 ghost use Rattle.delf_model.specs.Payloads.{Payloads, Journal, is_needed, last_carrier, payload_at};
 ghost use Rattle.store_laws.specs.Moves.{RestIn};
 ghost use Rattle.delf_book.specs.Keeping.{KeepsLogs, KeepsCarriers};

@@ -1,7 +1,8 @@
 //! What an accepted call is told.
 ghost use Rattle.std.specs.Prelude.{◌≡◌, ℕ, true, length, is_some};
 ghost use Rattle.delf_model.specs.Graph.{edge_stands};
-ghost use Rattle.delf_model.specs.State.{State, unlink_start};
+ghost use Rattle.delf_model.specs.State.{State};
+ghost use Rattle.delf_model.specs.Owners.{unlink_start};
 ghost use Rattle.job_table.specs.Table.{IsGraphOf};
 ghost use Rattle.delf_book.specs.Books.{given_by, started_by, restored_items, EdgeStands};
 ghost use Rattle.ledger.specs.Ledgers.{state_of};

@@ -1,7 +1,7 @@
 //! Serial steps.
 ghost use Rattle.std.specs.Prelude.{◌≡◌, false};
 ghost use Rattle.delf_disk.specs.Plain.{Plain, SameKind};
-ghost use Rattle.delf_model.specs.Legal.{moment_of};
+ghost use Rattle.delf_model.specs.Room.{moment_of};
 ghost use Rattle.delf_model.specs.Sound.{FirstIsLegal};
 ghost use Rattle.delf_book.specs.Books.{state_in};
 ghost use Rattle.delf_book.specs.Steps.{StepAnswers, StepIsSafe, CountsStep};

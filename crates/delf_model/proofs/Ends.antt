@@ -15,19 +15,24 @@ use Rattle.delf_model.specs.declared.call.Cause.TheVariants as cause
 use Rattle.delf_model.specs.declared.entry.What.{What}
 use Rattle.delf_model.specs.declared.entry.What.TheVariants.{Create, Update, Link, Unlink, Delete, Restore, Expire, Cut, Erase, Put, Purge}
 use Rattle.delf_model.specs.Graph.{Graph, PutsObject, TakesObject, RewritesObject, PutsEdge, TakesEdge, changed, has_key, same_key, object_at, edge_at, edge_stands, stands, is_born_at, touches, touches_row, is_touched, rewritten}
-use Rattle.delf_model.specs.State.{State, Logged, owner, graph_after, first_of_two, key_of, judged, put_change, put_unless, new_object, new_edge, end_cause, end_condemned, key_taken, is_owned_by}
+use Rattle.delf_model.specs.State.{State, Logged, owner, is_owned_by}
+use Rattle.delf_model.specs.Step.{graph_after, put_change, put_unless, new_object, new_edge}
+use Rattle.std.specs.Option.{option_or}
+use Rattle.delf_model.specs.Owners.{key_of}
+use Rattle.delf_model.specs.Puts.{judged, end_cause, end_condemned, key_taken}
 use Rattle.delf_model.specs.Store.{EndsStand}
-use Rattle.delf_model.specs.Legal.{is_allowed, refusals}
+use Rattle.delf_model.specs.Legal.{is_allowed}
+use Rattle.delf_model.specs.Reply.{refusals}
 use Rattle.delf_model.proofs.Graphs.{same_key_is, find-put_object, find-filter_object, find-rewritten, find-put_edge, find-filter_edge}
 use Rattle.delf_model.proofs.Lines.{none_of, there}
 
 -- what the judgement of a put says where it is put back
 
-first_left : {A : Type 0} (a b : Option A) → first_of_two a b ≡ None → a ≡ None
+first_left : {A : Type 0} (a b : Option A) → option_or a b ≡ None → a ≡ None
 first_left None b none = refl
 first_left (Some x) b none = absurd (cc none)
 
-first_right : {A : Type 0} (a b : Option A) → first_of_two a b ≡ None → b ≡ None
+first_right : {A : Type 0} (a b : Option A) → option_or a b ≡ None → b ≡ None
 first_right None b none = none
 first_right (Some x) b none = absurd (cc none)
 

@@ -2,9 +2,11 @@
 use Rattle.std.proofs.Common.{◌≡◌, ℕ, ◌≤◌, true, List, [], ◌∷◌, ◌++◌, take, ap, ◌∙◌, arith}
 use Rattle.delf_model.specs.declared.entry.Entry.{Entry}
 use Rattle.delf_model.specs.RuleSet.{RuleSet}
-use Rattle.delf_model.specs.State.{State, start, step, after, owner}
+use Rattle.delf_model.specs.State.{State, start, owner}
+use Rattle.delf_model.specs.Step.{step, after}
 use Rattle.delf_model.specs.Store.{EndsStand}
-use Rattle.delf_model.specs.Legal.{is_legal, Legal, room, room_limit, greatest_moment}
+use Rattle.delf_model.specs.Legal.{is_legal, Legal}
+use Rattle.delf_model.specs.Room.{room, room_limit, greatest_moment}
 use Rattle.delf_model.specs.Sound.{LeavesByOwner, ObjectsLeave, EdgesLeave, KeepsRoom, RaisesNot}
 use Rattle.delf_model.proofs.Runs.{each_step, good_run, good_take, after_push}
 use Rattle.delf_model.proofs.Lines.{allowed_of, moment_within}

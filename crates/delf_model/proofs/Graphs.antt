@@ -9,7 +9,7 @@ use Rattle.delf_model.specs.declared.rows.ObjectRow.{ObjectRow}
 use Rattle.delf_model.specs.declared.rows.EdgeKey.{EdgeKey}
 use Rattle.delf_model.specs.declared.rows.EdgeRow.{EdgeRow}
 use Rattle.delf_model.specs.Graph.{same_key, key_before, has_id, has_key, put_object, put_edge, is_other_object, is_other_edge, rewritten}
-use Rattle.delf_model.specs.State.{key_of}
+use Rattle.delf_model.specs.Owners.{key_of}
 
 pub find-put_object : (row : ObjectRow) (rows : List ObjectRow) (id : ℕ) →
     find (has_id id) (put_object row rows) ≡ cond (eqb row.id id) (Some row) (find (has_id id) rows)

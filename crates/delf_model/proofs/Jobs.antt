@@ -8,20 +8,24 @@ use Rattle.delf_model.specs.declared.ids.JobName.TheVariants.{Named, Expiry}
 use Rattle.delf_model.specs.declared.entry.Entry.{Entry}
 use Rattle.delf_model.specs.declared.entry.What.{What}
 use Rattle.delf_model.specs.declared.entry.What.TheVariants.{Create, Update, Link, Unlink, Delete, Restore, Expire, Cut, Erase, Put, Purge}
-use Rattle.delf_model.specs.State.{State, JobRow, Owners, step, owner, owner_in, owned, owns_of, owner_of_pair, is_pair_of, is_job, job_row, starts_at, is_restored, is_restored_row, jobs_after, new_job, started_job, restored_at, purged_if, erased_at, start_of, unlink_start, first_of_two}
-use Rattle.delf_model.specs.Legal.{is_legal, is_allowed, refusals, is_named_so}
+use Rattle.delf_model.specs.State.{State, JobRow, Owners, owner, owner_in, owned, owns_of, owner_of_pair, is_pair_of, is_job, job_row, starts_at, is_restored, is_restored_row}
+use Rattle.delf_model.specs.Step.{step, jobs_after, new_job, started_job, row_restored_at, purged_if, erased_at}
+use Rattle.delf_model.specs.Owners.{start_of, unlink_start}
+use Rattle.std.specs.Option.{option_or}
+use Rattle.delf_model.specs.Legal.{is_legal, is_allowed, is_named_so}
+use Rattle.delf_model.specs.Reply.{refusals}
 use Rattle.delf_model.proofs.Lines.{none_of, allowed_of, owns_none}
 use Rattle.delf_model.proofs.Owners.{owner_from}
 use Rattle.delf_model.proofs.Sums.{count_found}
 
 -- look-ups in lists that grew, or whose rows were changed
 
-append_case : {A : Type 0} (p : A → Bool) (x : A) (b : Bool) (found rest more : Option A) → rest ≡ first_of_two found more →
-    cond b (Some x) rest ≡ first_of_two (cond b (Some x) found) more
+append_case : {A : Type 0} (p : A → Bool) (x : A) (b : Bool) (found rest more : Option A) → rest ≡ option_or found more →
+    cond b (Some x) rest ≡ option_or (cond b (Some x) found) more
 append_case p x true found rest more IH = refl
 append_case p x false found rest more IH = IH
 
-pub find-append : {A : Type 0} (p : A → Bool) (xs ys : List A) → find p (xs ++ ys) ≡ first_of_two (find p xs) (find p ys)
+pub find-append : {A : Type 0} (p : A → Bool) (xs ys : List A) → find p (xs ++ ys) ≡ option_or (find p xs) (find p ys)
 find-append p [] ys = refl
 find-append p (x ∷ xs) ys = append_case p x (p x) (find p xs) (find p (xs ++ ys)) (find p ys) (find-append p xs ys)
 
@@ -36,7 +40,7 @@ find-map p f (x ∷ xs) same =
     ap (λ (b : Bool). cond b (Some (f x)) (find p (map f xs))) (same x) ∙
     map_case f x (p x) (find p xs) (find p (map f xs)) (find-map p f xs same)
 
-restored_start : (job position other : ℕ) (row : JobRow) → starts_at other (restored_at job position row) ≡ starts_at other row
+restored_start : (job position other : ℕ) (row : JobRow) → starts_at other (row_restored_at job position row) ≡ starts_at other row
 restored_start job position other row = by_hit (eqb row.start job)
   where
     by_hit : (b : Bool) → starts_at other (cond b (record row { restored = Some position }) row) ≡ starts_at other row
@@ -59,11 +63,11 @@ erased_start job moment other row = by_hit (eqb row.start job)
 
 -- the row of a job after an entry: with a new row at the end, or a change of its own
 pub job_row-started : (jobs : List JobRow) (start : ℕ) (o : Option (ℕ × JobName)) (job : ℕ) →
-    job_row (jobs ++ started_job start o) job ≡ first_of_two (job_row jobs job) (job_row (started_job start o) job)
+    job_row (jobs ++ started_job start o) job ≡ option_or (job_row jobs job) (job_row (started_job start o) job)
 job_row-started jobs start o job = find-append (starts_at job) jobs (started_job start o)
 
-pub job_row-restored : (jobs : List JobRow) (other position job : ℕ) → job_row (map (restored_at other position) jobs) job ≡ option_map (restored_at other position) (job_row jobs job)
-job_row-restored jobs other position job = find-map (starts_at job) (restored_at other position) jobs (restored_start other position job)
+pub job_row-restored : (jobs : List JobRow) (other position job : ℕ) → job_row (map (row_restored_at other position) jobs) job ≡ option_map (row_restored_at other position) (job_row jobs job)
+job_row-restored jobs other position job = find-map (starts_at job) (row_restored_at other position) jobs (restored_start other position job)
 
 pub job_row-purged : (jobs : List JobRow) (other job : ℕ) → job_row (map (purged_if other) jobs) job ≡ option_map (purged_if other) (job_row jobs job)
 job_row-purged jobs other job = find-map (starts_at job) (purged_if other) jobs (purged_start other job)
@@ -86,7 +90,7 @@ started_unrestored start (Some pair) job = by_hit (eqb start job)
     by_hit true = refl
     by_hit false = refl
 
-over_unrestored : (o p : Option JobRow) → is_restored_row p ≡ false → is_restored_row (first_of_two o p) ≡ is_restored_row o
+over_unrestored : (o p : Option JobRow) → is_restored_row p ≡ false → is_restored_row (option_or o p) ≡ is_restored_row o
 over_unrestored None p none = none
 over_unrestored (Some row) p none = refl
 
@@ -110,7 +114,7 @@ erased_same other moment (Some row) = by_hit (eqb row.start other)
     by_hit true = refl
     by_hit false = refl
 
-restored_other : (other position job : ℕ) (jobs : List JobRow) → eqb other job ≡ false → is_restored_row (option_map (restored_at other position) (job_row jobs job)) ≡ is_restored_row (job_row jobs job)
+restored_other : (other position job : ℕ) (jobs : List JobRow) → eqb other job ≡ false → is_restored_row (option_map (row_restored_at other position) (job_row jobs job)) ≡ is_restored_row (job_row jobs job)
 restored_other other position job jobs apart = by_row (job_row jobs job) (λ row found. found_start jobs job row found)
   where
     found_start : (rows : List JobRow) (j : ℕ) (row : JobRow) → find (starts_at j) rows ≡ Some row → row.start ≡ j
@@ -121,7 +125,7 @@ restored_other other position job jobs apart = by_row (job_row jobs job) (λ row
         by_hit true is here IH = let same : x ≡ row = cc in subst (λ (r : JobRow). r.start ≡ j) same (eqb-true x.start j is)
         by_hit false is here IH = IH here
 
-    by_row : (o : Option JobRow) → ((row : JobRow) → o ≡ Some row → row.start ≡ job) → is_restored_row (option_map (restored_at other position) o) ≡ is_restored_row o
+    by_row : (o : Option JobRow) → ((row : JobRow) → o ≡ Some row → row.start ≡ job) → is_restored_row (option_map (row_restored_at other position) o) ≡ is_restored_row o
     by_row None start = refl
     by_row (Some row) start = by_hit (eqb row.start other) refl
       where
@@ -146,7 +150,7 @@ restored_same s moment (Purge which) job other = ap is_restored_row (job_row-pur
 
 -- jobs after an entry are those before, or the one that starts here
 
-some_first : {A : Type 0} (o p : Option A) → is_some (first_of_two o p) ≡ true → (is_some o ≡ true) ⊎ (is_some p ≡ true)
+some_first : {A : Type 0} (o p : Option A) → is_some (option_or o p) ≡ true → (is_some o ≡ true) ⊎ (is_some p ≡ true)
 some_first None p some = inr some
 some_first (Some x) p some = inl refl
 
@@ -180,7 +184,7 @@ jobs_from s moment (Update tag id size) job some = inl some
 jobs_from s moment (Link tag edge from to size) job some = inl some
 jobs_from s moment (Unlink tag edge from to name) job some = grown_from s.jobs s.len (unlink_start s edge from to name) job some
 jobs_from s moment (Delete tag id name) job some = grown_from s.jobs s.len (Some (id, Named name)) job some
-jobs_from s moment (Restore tag which) job some = mapped_from (restored_at which s.len) s.len job (job_row s.jobs job) _ (job_row-restored s.jobs which s.len job) some
+jobs_from s moment (Restore tag which) job some = mapped_from (row_restored_at which s.len) s.len job (job_row s.jobs job) _ (job_row-restored s.jobs which s.len job) some
 jobs_from s moment (Expire id) job some = grown_from s.jobs s.len (Some (id, Expiry id)) job some
 jobs_from s moment (Cut which edge from to) job some = mapped_from (erased_at which moment) s.len job (job_row s.jobs job) _ (job_row-erased s.jobs which moment job) some
 jobs_from s moment (Erase which id) job some = mapped_from (erased_at which moment) s.len job (job_row s.jobs job) _ (job_row-erased s.jobs which moment job) some

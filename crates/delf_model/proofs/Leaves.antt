@@ -13,8 +13,12 @@ use Rattle.delf_model.specs.declared.entry.Entry.{Entry}
 use Rattle.delf_model.specs.declared.entry.What.{What}
 use Rattle.delf_model.specs.declared.entry.What.TheVariants.{Create, Update, Link, Unlink, Delete, Restore, Expire, Cut, Erase, Put, Purge}
 use Rattle.delf_model.specs.Graph.{Graph, PutsObject, TakesObject, RewritesObject, PutsEdge, TakesEdge, changed, object_at, edge_at, edge_stands, stands, is_born_at, same_key, rewritten}
-use Rattle.delf_model.specs.State.{State, Logged, step, owner, is_owned_by, is_job, judged, taken, put_change, put_unless, key_of, new_object, new_edge}
-use Rattle.delf_model.specs.Legal.{is_legal, is_allowed, refusals}
+use Rattle.delf_model.specs.State.{State, Logged, owner, is_owned_by, is_job}
+use Rattle.delf_model.specs.Step.{step, put_change, put_unless, new_object, new_edge}
+use Rattle.delf_model.specs.Puts.{judged, taken}
+use Rattle.delf_model.specs.Owners.{key_of}
+use Rattle.delf_model.specs.Legal.{is_legal, is_allowed}
+use Rattle.delf_model.specs.Reply.{refusals}
 use Rattle.delf_model.specs.Sound.{ObjectsLeave, EdgesLeave, ByUnlink, ByCut}
 use Rattle.delf_model.proofs.Graphs.{find-put_object, find-filter_object, find-rewritten, find-put_edge, find-filter_edge, same_key_is}
 use Rattle.delf_model.proofs.Lines.{none_of, allowed_of, name_free}

@@ -10,8 +10,11 @@ use Rattle.delf_model.specs.declared.call.Refusal.TheVariants.{TooLong, Absent, 
 use Rattle.delf_model.specs.declared.entry.Entry.{Entry}
 use Rattle.delf_model.specs.declared.entry.What.{What}
 use Rattle.delf_model.specs.Graph.{object_at, edge_at, edge_stands}
-use Rattle.delf_model.specs.State.{State, step, owner, owned, tag_of}
-use Rattle.delf_model.specs.Legal.{is_legal, is_allowed, is_tag, is_numbered, greatest_moment, payload_limit, room_limit, room, first_refusal, too_long, absent, condemned, condemned_by, name_taken, name_taken_by, edge_taken, edge_taken_by, no_edge, full, pending, used, owed}
+use Rattle.delf_model.specs.State.{State, owner, owned}
+use Rattle.delf_model.specs.Step.{step, tag_of}
+use Rattle.delf_model.specs.Legal.{is_legal, is_allowed, is_tag, is_numbered}
+use Rattle.delf_model.specs.Room.{greatest_moment, payload_limit, room_limit, room, used, owed}
+use Rattle.delf_model.specs.Reply.{first_refusal, too_long, absent, condemned, condemned_by, name_taken, name_taken_by, edge_taken, edge_taken_by, no_edge, full, pending}
 
 -- each of these is none
 abbrev pub NoneOf : {A : Type 0} → List (Option A) → Type 0

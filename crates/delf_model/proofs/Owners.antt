@@ -10,7 +10,10 @@ use Rattle.delf_model.specs.declared.entry.Entry.{Entry}
 use Rattle.delf_model.specs.RuleSet.{RuleSet}
 use Rattle.delf_model.specs.Graph.{Graph, has_id, has_key, same_key, object_at, stands, is_born_at}
 use Rattle.delf_model.proofs.Graphs.{same_key_is}
-use Rattle.delf_model.specs.State.{State, Owners, step, owner, owner_in, owns_of, owner_of_pair, graph_after, root_of_start, start_of, root_owner, first_of_two, next_owner, first_passed, passed_owner}
+use Rattle.delf_model.specs.State.{State, Owners, owner, owner_in, owns_of, owner_of_pair}
+use Rattle.delf_model.specs.Step.{step, graph_after}
+use Rattle.delf_model.specs.Owners.{root_of_start, start_of, root_owner, next_owner, first_passed, passed_owner}
+use Rattle.std.specs.Option.{option_or}
 
 -- the owner in a list that gives each row its owner
 pub owner_in-map : (f : ObjectRow → Option ℕ) (rows : List ObjectRow) (id : ℕ) →
@@ -61,8 +64,8 @@ found_key (x ∷ xs) key row found = find_key (same_key x.key key) key x row (fi
 
 abbrev pub passed_to : State → Entry → ℕ → Option ℕ
 passed_to s e id =
-    first_of_two (owner s id)
-    (first_of_two (root_owner (root_of_start (start_of s e.what)) s.len id)
+    option_or (owner s id)
+    (option_or (root_owner (root_of_start (start_of s e.what)) s.len id)
     (first_passed s.rules (graph_after s e.moment e.what) s.owners id s.graph.edges))
 
 next_of : (s : State) (e : Entry) (id : ℕ) (row : ObjectRow) (stood : Bool) → row.id ≡ id → stands s.graph id row.birth ≡ stood →
@@ -89,7 +92,7 @@ pub owner_stays : (s : State) (e : Entry) (id job : ℕ) (row : ObjectRow) → o
     stands s.graph id row.birth ≡ true → owner s id ≡ Some job → owner (step s e) id ≡ Some job
 owner_stays s e id job row at stood own =
     owner_kept s e id row at stood ∙
-    ap (λ (o : Option ℕ). first_of_two o (first_of_two (root_owner (root_of_start (start_of s e.what)) s.len id)
+    ap (λ (o : Option ℕ). option_or o (option_or (root_owner (root_of_start (start_of s e.what)) s.len id)
     (first_passed s.rules (graph_after s e.moment e.what) s.owners id s.graph.edges))) own
 
 -- what is owned stands in the graph
@@ -118,7 +121,7 @@ passed_from : (rules : RuleSet) (now : Graph) (owners : Owners) (id job : ℕ) (
 passed_from rules now owners id job row true own = own
 passed_from rules now owners id job row false own = absurd (cc own)
 
-first_from : (o p : Option ℕ) (job : ℕ) → first_of_two o p ≡ Some job → (o ≡ Some job) ⊎ (p ≡ Some job)
+first_from : (o p : Option ℕ) (job : ℕ) → option_or o p ≡ Some job → (o ≡ Some job) ⊎ (p ≡ Some job)
 first_from None p job own = inr own
 first_from (Some x) p job own = inl own
 

@@ -14,7 +14,10 @@ use Rattle.delf_model.specs.declared.entry.Entry.{Entry}
 use Rattle.delf_model.specs.declared.entry.What.{What}
 use Rattle.delf_model.specs.declared.entry.What.TheVariants.{Create, Update, Link, Unlink, Delete, Restore, Expire, Cut, Erase, Put, Purge}
 use Rattle.delf_model.specs.Graph.{Graph, has_id, object_at, edge_at, rewritten, is_other_object, changed}
-use Rattle.delf_model.specs.State.{State, Logged, Handled, JobRow, step, job_row, is_restored, is_restored_row, is_open, job_of, jobs_after, items_after, key_of, edge_item, object_item, handled_at, outcome, unhandled, judged, put_change, put_unless, is_owned_by, birth_of, restored_at, new_object}
+use Rattle.delf_model.specs.State.{State, Logged, Handled, JobRow, job_row, is_restored, is_restored_row, is_open, job_of, is_owned_by}
+use Rattle.delf_model.specs.Step.{step, jobs_after, items_after, edge_item, object_item, handled_at, outcome, unhandled, put_change, put_unless, birth_of, row_restored_at, new_object}
+use Rattle.delf_model.specs.Owners.{key_of}
+use Rattle.delf_model.specs.Puts.{judged}
 use Rattle.delf_model.specs.Legal.{is_legal, is_allowed, may_put, ends_handled, is_end_item}
 use Rattle.delf_model.specs.Sound.{is_erasure_of, erasures}
 use Rattle.delf_model.proofs.Lines.{allowed_of}
@@ -219,7 +222,7 @@ restore_stays s moment what job was = by_kind (is_restore_of job what) refl
     by_kind : (b : Bool) → is_restore_of job what ≡ b → is_restored (jobs_after s moment what) job ≡ true
     by_kind true is = again what is
       where
-        stays_row : (which : ℕ) (o : Option JobRow) → is_restored_row o ≡ true → is_restored_row (option_map (restored_at which s.len) o) ≡ true
+        stays_row : (which : ℕ) (o : Option JobRow) → is_restored_row o ≡ true → is_restored_row (option_map (row_restored_at which s.len) o) ≡ true
         stays_row which None restored = absurd (false≢true restored)
         stays_row which (Some row) restored = by_hit (eqb row.start which)
           where

@@ -14,9 +14,14 @@ use Rattle.delf_model.specs.declared.entry.What.{What}
 use Rattle.delf_model.specs.declared.entry.What.TheVariants.{Create, Update, Link, Unlink, Delete, Restore, Expire, Cut, Erase, Put, Purge}
 use Rattle.delf_model.specs.RuleSet.{RuleSet}
 use Rattle.delf_model.specs.Graph.{Graph, TakesEdge, changed, has_key, same_key, object_at, edge_at, edge_stands, stands, is_born_at}
-use Rattle.delf_model.specs.State.{State, Logged, Owners, step, owner, owner_in, is_owned_by, is_job, graph_after, root_of_start, start_of, root_owner, unlink_start, first_of_two, first_passed, passed_owner, condemns, key_of, judged, put_change, new_edge}
+use Rattle.delf_model.specs.State.{State, Logged, Owners, owner, owner_in, is_owned_by, is_job}
+use Rattle.delf_model.specs.Step.{step, graph_after, put_change, new_edge}
+use Rattle.delf_model.specs.Owners.{root_of_start, start_of, root_owner, unlink_start, first_passed, passed_owner, condemns, key_of}
+use Rattle.std.specs.Option.{option_or}
+use Rattle.delf_model.specs.Puts.{judged}
 use Rattle.delf_model.specs.Store.{EndsStand}
-use Rattle.delf_model.specs.Legal.{is_legal, refusals, is_due_row}
+use Rattle.delf_model.specs.Legal.{is_legal, is_due_row}
+use Rattle.delf_model.specs.Reply.{refusals}
 use Rattle.delf_model.proofs.Graphs.{same_key_is, same_key_refl, same_key_sym, find-filter_edge, find-filter_object}
 use Rattle.delf_model.proofs.Lines.{none_of, allowed_of, there, free, edge_there}
 use Rattle.delf_model.proofs.Leaves.{objects_leave, edge_stands_put, edge_stands_put_item}
@@ -74,8 +79,8 @@ passes_none b c o true true is = refl
 passes_none b c o false true is = refl
 passes_none b c o here false is = absurd (false≢true is)
 
-first_after : (o p : Option ℕ) → o ≡ None → p ≡ None → first_of_two o p ≡ None
-first_after o p one two = ap (λ (x : Option ℕ). first_of_two x p) one ∙ two
+first_after : (o p : Option ℕ) → o ≡ None → p ≡ None → option_or o p ≡ None
+first_after o p one two = ap (λ (x : Option ℕ). option_or x p) one ∙ two
 
 pub none_passed : (rules : RuleSet) (now : Graph) (owners : Owners) (id : ℕ) (rows : List EdgeRow) → AllStand now rows →
     first_passed rules now owners id rows ≡ None
@@ -108,7 +113,7 @@ passed_row rules now owners id gone row true is stood =
 passed_row rules now owners id gone row false is stood =
     passes_none true (condemns rules now row.key) (owner_in owners row.key.from) (eqb row.key.to id) (edge_stands now row.key) stood
 
-join_passed : (here later : Bool) (o : Option ℕ) → first_of_two (cond here o None) (cond later o None) ≡ cond (here || later) o None
+join_passed : (here later : Bool) (o : Option ℕ) → option_or (cond here o None) (cond later o None) ≡ cond (here || later) o None
 join_passed true true None = refl
 join_passed true true (Some x) = refl
 join_passed true false None = refl
@@ -122,9 +127,9 @@ pub one_passed : (rules : RuleSet) (now : Graph) (owners : Owners) (id : ℕ) (g
     first_passed rules now owners id rows ≡ cond (list_any (has_gone gone) rows) (passed_by rules now owners id gone) None
 one_passed rules now owners id gone [] stand = refl
 one_passed rules now owners id gone (row ∷ rows) stand =
-    ap (λ (o : Option ℕ). first_of_two o (first_passed rules now owners id rows))
+    ap (λ (o : Option ℕ). option_or o (first_passed rules now owners id rows))
     (passed_row rules now owners id gone row (same_key gone row.key) refl stand.0) ∙
-    (ap (λ (o : Option ℕ). first_of_two (cond (same_key gone row.key) (passed_by rules now owners id gone) None) o)
+    (ap (λ (o : Option ℕ). option_or (cond (same_key gone row.key) (passed_by rules now owners id gone) None) o)
     (one_passed rules now owners id gone rows stand.1) ∙
     join_passed (same_key gone row.key) (list_any (has_gone gone) rows) (passed_by rules now owners id gone))
 
@@ -204,7 +209,7 @@ afterwards s e legal stand id = by_now (object_at (graph_after s e.moment e.what
     by_now None at = by_owner (owner s id) refl (owner_gone s e id at) (λ birth stood. ap (is_born_at birth) at)
     by_now (Some row) at = by_stood row at (stands s.graph id row.birth) refl
 
-first_none : (o : Option ℕ) → first_of_two o None ≡ o
+first_none : (o : Option ℕ) → option_or o None ≡ o
 first_none None = refl
 first_none (Some x) = refl
 
@@ -216,8 +221,8 @@ quiet_plain s e legal stand none other id passed = by_case (afterwards s e legal
   where
     by_case : Afterwards s e id → owner (step s e) id ≡ owner s id
     by_case (Kept row at is) =
-        is ∙ (ap (λ (o : Option ℕ). first_of_two (owner s id) (first_of_two (root_owner (root_of_start (start_of s e.what)) s.len id) o)) passed ∙
-        (ap (λ (o : Option _). first_of_two (owner s id) (first_of_two (root_owner (root_of_start o) s.len id) None)) none ∙ first_none (owner s id)))
+        is ∙ (ap (λ (o : Option ℕ). option_or (owner s id) (option_or (root_owner (root_of_start (start_of s e.what)) s.len id) o)) passed ∙
+        (ap (λ (o : Option _). option_or (owner s id) (option_or (root_owner (root_of_start o) s.len id) None)) none ∙ first_none (owner s id)))
     by_case (Unowned own now) = now ∙ sym own
     by_case (Erased job is now) = absurd (other job id is)
 
@@ -234,8 +239,8 @@ same_objects s e id same stand (Some row) at =
     (λ some. owner_kept s e id row (same ∙ at) (stands_of s.graph id row at), λ none. absurd (cc none))
 
 root_passed : (root position id : ℕ) (hit : Bool) (own : Option ℕ) → (hit ≡ true → own ≡ None) →
-    first_of_two own (first_of_two (cond hit (Some position) None) None) ≡ cond hit (Some position) own
-root_passed root position id true own free = ap (λ (o : Option ℕ). first_of_two o (Some position)) (free refl)
+    option_or own (option_or (cond hit (Some position) None) None) ≡ cond hit (Some position) own
+root_passed root position id true own free = ap (λ (o : Option ℕ). option_or o (Some position)) (free refl)
 root_passed root position id false own free = first_none own
 
 -- an entry that starts a job at a root that stands and has no owner, and passes nothing
@@ -260,8 +265,8 @@ started_plain s e root stand is there_root free_root id same passed = by_row (ob
         both.0 ∙ by_gone (eqb root id) refl at both.1
     by_row (Some row) at =
         (same_objects s e id same stand (Some row) at).0 refl ∙
-        (ap (λ (o : Option ℕ). first_of_two (owner s id) (first_of_two (root_owner (root_of_start (start_of s e.what)) s.len id) o)) passed ∙
-        (ap (λ (o : Option ℕ). first_of_two (owner s id) (first_of_two (root_owner o s.len id) None)) is ∙
+        (ap (λ (o : Option ℕ). option_or (owner s id) (option_or (root_owner (root_of_start (start_of s e.what)) s.len id) o)) passed ∙
+        (ap (λ (o : Option ℕ). option_or (owner s id) (option_or (root_owner o s.len id) None)) is ∙
         root_passed root s.len id (eqb root id) (owner s id) (along (eqb root id) refl)))
 
 same_edges : (s : State) (now : Graph) (id : ℕ) → ((key : EdgeKey) → edge_stands s.graph key ≡ true → edge_stands now key ≡ true) →
@@ -298,8 +303,8 @@ unlink_plain s moment tag edge from to name legal stand there_to free_to id pass
     by_case : Afterwards s (record { moment = moment; what = Unlink tag edge from to name }) id →
         owner (step s (record { moment = moment; what = Unlink tag edge from to name })) id ≡ owner s id
     by_case (Kept row at is) =
-        is ∙ (ap (λ (o : Option ℕ). first_of_two (owner s id) (first_of_two (root_owner (root_of_start (unlink_start s edge from to name)) s.len id) o)) passed ∙
-        (ap (λ (o : Option ℕ). first_of_two (owner s id) (first_of_two (root_owner o s.len id) None)) root ∙ first_none (owner s id)))
+        is ∙ (ap (λ (o : Option ℕ). option_or (owner s id) (option_or (root_owner (root_of_start (unlink_start s edge from to name)) s.len id) o)) passed ∙
+        (ap (λ (o : Option ℕ). option_or (owner s id) (option_or (root_owner o s.len id) None)) root ∙ first_none (owner s id)))
     by_case (Unowned own now) = now ∙ sym own
     by_case (Erased job is now) = absurd (cc is)
 
@@ -313,10 +318,10 @@ unlink_root s edge from to name = by_hit _
 
 -- the case of a cut
 cut_owner : (job : ℕ) (source target own : Option ℕ) (hit c : Bool) → (hit ≡ true → own ≡ target) → (is_job job source || is_job job target) ≡ true →
-    first_of_two own (first_of_two None (cond (hit && c) source None)) ≡ cond (hit && is_none target && c) (Some job) own
+    option_or own (option_or None (cond (hit && c) source None)) ≡ cond (hit && is_none target && c) (Some job) own
 cut_owner job source target own false c along line = first_none own
 cut_owner job source None own true true along line =
-    ap (λ (o : Option ℕ). first_of_two o source) (along refl) ∙ by_line source line
+    ap (λ (o : Option ℕ). option_or o source) (along refl) ∙ by_line source line
   where
     by_line : (o : Option ℕ) → (is_job job o || false) ≡ true → o ≡ Some job
     by_line None own_line = absurd (false≢true own_line)
@@ -326,7 +331,7 @@ cut_owner job source None own true true along line =
         by_or true is = refl
         by_or false is = is
 cut_owner job source None own true false along line = first_none own
-cut_owner job source (Some t) own true c along line = ap (λ (o : Option ℕ). first_of_two o (first_of_two None (cond c source None))) (along refl) ∙ sym (along refl)
+cut_owner job source (Some t) own true c along line = ap (λ (o : Option ℕ). option_or o (option_or None (cond c source None))) (along refl) ∙ sym (along refl)
 
 cut_plain : (s : State) (moment job edge from to : ℕ) → OwnedStand s → EndsStand s.graph →
     edge_stands s.graph (key_of edge from to) ≡ true → (is_owned_by s job from || is_owned_by s job to) ≡ true → (id : ℕ) →
@@ -347,7 +352,7 @@ cut_plain s moment job edge from to stand ends stood line id = by_row (object_at
         both.0 ∙ gone_target (eqb to id) (condemns s.rules (changed s.graph (TakesEdge (key_of edge from to))) (key_of edge from to)) refl at both.1
     by_row (Some row) at =
         (same_objects s (record { moment = moment; what = Cut job edge from to }) id refl stand (Some row) at).0 refl ∙
-        (ap (λ (o : Option ℕ). first_of_two (owner s id) (first_of_two None o)) (taken_passes s.rules s.graph s.owners id (key_of edge from to) stood) ∙
+        (ap (λ (o : Option ℕ). option_or (owner s id) (option_or None o)) (taken_passes s.rules s.graph s.owners id (key_of edge from to) stood) ∙
         cut_owner job (owner s from) (owner s to) (owner s id) (eqb to id) (condemns s.rules (changed s.graph (TakesEdge (key_of edge from to))) (key_of edge from to)) (along (eqb to id) refl) line)
 
 -- the owner after a legal entry
@@ -394,7 +399,7 @@ owner_plain s moment (Erase job gone) legal stand ends id = by_hit (eqb gone id)
       where
         by_case : Afterwards s (record { moment = moment; what = Erase job gone }) id → owner (step s (record { moment = moment; what = Erase job gone })) id ≡ owner s id
         by_case (Kept row here is) =
-            is ∙ (ap (λ (o : Option ℕ). first_of_two (owner s id) (first_of_two None o)) (same_edges s (graph_after s moment (Erase job gone)) id (λ key stood. stood)) ∙ first_none (owner s id))
+            is ∙ (ap (λ (o : Option ℕ). option_or (owner s id) (option_or None o)) (same_edges s (graph_after s moment (Erase job gone)) id (λ key stood. stood)) ∙ first_none (owner s id))
         by_case (Unowned own now) = now ∙ sym own
         by_case (Erased other is now) = absurd (false≢true (sym at ∙ eq-eqb gone id (let same : gone ≡ id = cc in same)))
 owner_plain s moment (Put job i) legal stand ends id =

@@ -16,8 +16,13 @@ use Rattle.delf_model.specs.declared.entry.Tag.{Tag}
 use Rattle.delf_model.specs.declared.entry.What.{What}
 use Rattle.delf_model.specs.declared.entry.What.TheVariants.{Create, Update, Link, Unlink, Delete, Restore, Expire, Cut, Erase, Put, Purge}
 use Rattle.delf_model.specs.Graph.{Graph, has_id, has_key, object_at, edge_at, edge_stands, is_other_object, is_other_edge, changed}
-use Rattle.delf_model.specs.State.{State, Logged, JobRow, step, owner, job_row, starts_at, is_restored, is_open, is_object_item, job_of, jobs_after, new_job, started_job, purged_if, erased_at, unlink_start, key_of, edge_item, object_item, outcome, unhandled, judged, put_change, put_unless, is_owned_by, birth_of, owned, left}
-use Rattle.delf_model.specs.Legal.{is_legal, refusals, room, room_limit, owed_for_object, owed_for_edge, owed_for_job, owed_for_item, may_put, may_purge, is_named_so, is_due_row, ends_handled, window_passed}
+use Rattle.delf_model.specs.State.{State, Logged, JobRow, owner, job_row, starts_at, is_restored, is_open, is_object_item, job_of, is_owned_by, owned, left}
+use Rattle.delf_model.specs.Step.{step, jobs_after, new_job, started_job, purged_if, erased_at, edge_item, object_item, outcome, unhandled, put_change, put_unless, birth_of}
+use Rattle.delf_model.specs.Owners.{unlink_start, key_of}
+use Rattle.delf_model.specs.Puts.{judged}
+use Rattle.delf_model.specs.Legal.{is_legal, may_put, may_purge, is_named_so, is_due_row, ends_handled, window_passed}
+use Rattle.delf_model.specs.Reply.{refusals}
+use Rattle.delf_model.specs.Room.{room, room_limit, owed_for_object, owed_for_edge, owed_for_job, owed_for_item}
 use Rattle.delf_model.specs.Sound.{never_raises}
 use Rattle.delf_model.specs.Store.{EndsStand}
 use Rattle.delf_model.proofs.Lines.{NoneOf, none_of, allowed_of, there, free, edge_there, room_left}

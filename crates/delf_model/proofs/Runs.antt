@@ -5,7 +5,8 @@ use Rattle.std.specs.Prelude.{slice_get}
 use Rattle.delf_model.specs.declared.entry.Entry.{Entry}
 use Rattle.delf_model.specs.declared.entry.What.{What}
 use Rattle.delf_model.specs.RuleSet.{RuleSet}
-use Rattle.delf_model.specs.State.{State, start, step, run, after}
+use Rattle.delf_model.specs.State.{State, start}
+use Rattle.delf_model.specs.Step.{step, run, after}
 use Rattle.delf_model.specs.Legal.{is_legal, is_legal_from, Legal, EachStep}
 
 pub run-append : (s : State) (es fs : List Entry) → run s (es ++ fs) ≡ run (run s es) fs

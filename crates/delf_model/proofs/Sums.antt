@@ -5,7 +5,8 @@ use Rattle.std.specs.Prelude.{find, filter, map, sum_by, count_by, slice_get}
 use Rattle.delf_model.specs.declared.rows.ObjectRow.{ObjectRow}
 use Rattle.delf_model.specs.declared.rows.EdgeRow.{EdgeRow}
 use Rattle.delf_model.specs.Graph.{put_object, put_edge, key_before, same_key}
-use Rattle.delf_model.specs.State.{Logged, Handled, handled_at}
+use Rattle.delf_model.specs.State.{Logged, Handled}
+use Rattle.delf_model.specs.Step.{handled_at}
 
 -- a sum over a list with a row put into it
 put_object_case : (f : ObjectRow → ℕ) (row x : ObjectRow) (xs rest : List ObjectRow) (before same : Bool) → sum_by f rest ≤ f row + sum_by f xs →

@@ -1,3 +1,4 @@
+-- The first broken rule of a schema, and the faults that tell it.
 use Rattle.std.specs.Prelude.{length}
 use Rattle.delf_model.specs.declared.schema.Schema.{Schema}
 use Rattle.delf_model.specs.declared.rules.Broken.{Broken}

@@ -1,10 +1,11 @@
-use Rattle.std.specs.Prelude.{◌≡◌, ◌<◌, ◌≤◌, ℕ, Bool, true, false, List, [], ◌∷◌, Option, Some, None, length, map, slice_get, IsTrue, ◌⊎◌}
+-- Checked annotations: the four rules of a schema, and routes.
+use Rattle.std.specs.Prelude.{◌≡◌, ◌<◌, ◌≤◌, ℕ, Bool, true, false, List, [], ◌∷◌, Option, Some, None, length, map, slice_get, IsTrue, ◌⊎◌, option_map, unwrap_or}
 use Rattle.std.specs.List.{position_or_len, All}
 use Rattle.std.specs.Str.{bytes_eq}
 use Rattle.delf_model.specs.declared.schema.ObjectRule.{ObjectRule}
 use Rattle.delf_model.specs.declared.schema.ObjectRule.TheVariants.{Directly, DirectlyOnly, ByAny, ShortTtl, NotDeleted}
 use Rattle.delf_model.specs.declared.schema.EdgeRule.{EdgeRule}
-use Rattle.delf_model.specs.declared.schema.EdgeRule.TheVariants.{Deep, Shallow, Refcount}
+use Rattle.delf_model.specs.declared.schema.EdgeRule.TheVariants.{Shallow}
 use Rattle.delf_model.specs.declared.schema.EdgeShape.{EdgeShape}
 use Rattle.delf_model.specs.declared.schema.ObjectType.{ObjectType}
 use Rattle.delf_model.specs.declared.schema.EdgeType.{EdgeType}
@@ -15,23 +16,20 @@ use Rattle.delf_model.specs.RuleSet.{RuleSet, is_deep, is_refcount}
 abbrev pub is_start_rule : ObjectRule → Bool
 is_start_rule Directly = true
 is_start_rule DirectlyOnly = true
-is_start_rule ByAny = false
 is_start_rule (ShortTtl seconds) = true
-is_start_rule NotDeleted = false
+is_start_rule rule = false
 
 -- objects of the type may be condemned through an edge
 abbrev pub takes_rule : ObjectRule → Bool
 takes_rule Directly = true
-takes_rule DirectlyOnly = false
 takes_rule ByAny = true
 takes_rule (ShortTtl seconds) = true
-takes_rule NotDeleted = false
+takes_rule rule = false
 
 -- the removal of the edge may condemn its target
 abbrev pub condemns_rule : EdgeRule → Bool
-condemns_rule Deep = true
 condemns_rule Shallow = false
-condemns_rule Refcount = true
+condemns_rule rule = true
 
 abbrev pub is_start_type : Option ObjectRule → Bool
 is_start_type (Some rule) = is_start_rule rule
@@ -46,12 +44,10 @@ condemns_shape (Some shape) = condemns_rule shape.rule
 condemns_shape None = false
 
 abbrev pub shape_from : Option EdgeShape → ℕ
-shape_from (Some shape) = shape.from
-shape_from None = 0
+shape_from shape = unwrap_or (option_map (λ shape. shape.from) shape) 0
 
 abbrev pub shape_to : Option EdgeShape → ℕ
-shape_to (Some shape) = shape.to
-shape_to None = 0
+shape_to shape = unwrap_or (option_map (λ shape. shape.to) shape) 0
 
 -- whether the object type with this number starts each route
 abbrev pub is_start : RuleSet → ℕ → Bool

@@ -1,4 +1,5 @@
-use Rattle.std.specs.Prelude.{◌≡◌, ℕ, ◌+◌, ◌<◌, ◌≤◌, Bool, true, false, cond, ◌&&◌, ◌||◌, not, nat_eq, List, [], ◌∷◌, Option, Some, None, is_some, is_none, length, slice_get, take, ◌⊎◌}
+-- What belongs to a root: the closure in one graph, the parts of a history in which it holds, what a job took, the union.
+use Rattle.std.specs.Prelude.{◌≡◌, ℕ, ◌+◌, ◌<◌, ◌≤◌, Bool, true, false, ◌&&◌, ◌||◌, not, nat_eq, List, [], ◌∷◌, Option, Some, None, is_some, is_none, length, slice_get, take, ◌⊎◌, if◌then◌else◌, option_map}
 use Rattle.std.specs.List.{list_any}
 use Rattle.delf_model.specs.declared.rows.ObjectRow.{ObjectRow}
 use Rattle.delf_model.specs.declared.rows.EdgeKey.{EdgeKey}
@@ -7,10 +8,11 @@ use Rattle.delf_model.specs.declared.rows.Item.{Item}
 use Rattle.delf_model.specs.declared.rows.Item.TheVariants as item
 use Rattle.delf_model.specs.declared.entry.Entry.{Entry}
 use Rattle.delf_model.specs.declared.entry.What.{What}
-use Rattle.delf_model.specs.declared.entry.What.TheVariants.{Create, Update, Link, Unlink, Delete, Restore, Expire, Cut, Erase, Put, Purge}
+use Rattle.delf_model.specs.declared.entry.What.TheVariants.{Create, Update, Link, Unlink, Delete, Expire, Cut, Erase, Put}
 use Rattle.delf_model.specs.RuleSet.{RuleSet, is_deep, is_refcount}
 use Rattle.delf_model.specs.Graph.{Graph, object_at, edge_stands, stands, same_key, touches, has_refs, put_object, put_edge}
-use Rattle.delf_model.specs.State.{State, Logged, JobRow, after, owner, job_row, job_of}
+use Rattle.delf_model.specs.State.{State, Logged, JobRow, owner, job_row, job_of}
+use Rattle.delf_model.specs.Step.{after}
 
 abbrev pub has : List ℕ → ℕ → Bool
 has ids id = list_any (λ x. nat_eq x id) ids
@@ -44,34 +46,25 @@ names s (Update tag id size) other = nat_eq id other
 names s (Link tag edge from to size) other = nat_eq from other || nat_eq to other
 names s (Unlink tag edge from to name) other = nat_eq from other || nat_eq to other
 names s (Delete tag id name) other = nat_eq id other
-names s (Restore tag job) other = false
 names s (Expire id) other = nat_eq id other
 names s (Cut job edge from to) other = nat_eq from other || nat_eq to other
 names s (Erase job id) other = nat_eq id other
 names s (Put job i) other = logged_names other (slice_get s.items i)
-names s (Purge job) other = false
+names s what other = false
 
 -- a Cut, Erase or Put of the job
 abbrev pub is_step_of : ℕ → What → Bool
-is_step_of job (Create tag kind id size) = false
-is_step_of job (Update tag id size) = false
-is_step_of job (Link tag edge from to size) = false
-is_step_of job (Unlink tag edge from to name) = false
-is_step_of job (Delete tag id name) = false
-is_step_of job (Restore tag other) = false
-is_step_of job (Expire id) = false
 is_step_of job (Cut other edge from to) = nat_eq other job
 is_step_of job (Erase other id) = nat_eq other job
 is_step_of job (Put other i) = nat_eq other job
-is_step_of job (Purge other) = false
+is_step_of job what = false
 
 -- an entry is a step of the job, or names none of the ids
 abbrev pub LeavesAlone : ℕ → List ℕ → State → What → Type 0
 LeavesAlone job ids s what = (is_step_of job what ≡ true) ⊎ ((id : ℕ) → has ids id ≡ true → names s what id ≡ false)
 
 abbrev pub root_of_row : Option JobRow → Option ℕ
-root_of_row None = None
-root_of_row (Some row) = Some row.root
+root_of_row found = option_map (λ row. row.root) found
 
 abbrev pub root_of : State → ℕ → Option ℕ
 root_of s job = root_of_row (job_row s.jobs job)
@@ -111,7 +104,7 @@ has_cut s job key = list_any (λ logged. cut_item job key logged.item) s.items
 -- the items as a list
 abbrev pub items_of_job : ℕ → List Logged → List Item
 items_of_job job [] = []
-items_of_job job (x ∷ xs) = cond (nat_eq (job_of x.item) job) (x.item ∷ items_of_job job xs) (items_of_job job xs)
+items_of_job job (x ∷ xs) = if nat_eq (job_of x.item) job then x.item ∷ items_of_job job xs else items_of_job job xs
 
 -- the union of a graph and items: the object items whose id is free, then the edge items whose key is free and each of
 -- whose ends stands among these objects with its logged birth and without an owner
@@ -119,7 +112,7 @@ items_of_job job (x ∷ xs) = cond (nat_eq (job_of x.item) job) (x.item ∷ item
 abbrev pub with_objects : Graph → List Item → List ObjectRow
 with_objects g [] = g.objects
 with_objects g (item.Object job row ∷ rest) =
-    cond (is_some (object_at g row.id)) (with_objects g rest) (put_object row (with_objects g rest))
+    if is_some (object_at g row.id) then with_objects g rest else put_object row (with_objects g rest)
 with_objects g (item.Edge job row from_birth to_birth ∷ rest) = with_objects g rest
 
 abbrev pub end_fits : State → Graph → ℕ → ℕ → Bool
@@ -133,7 +126,7 @@ abbrev pub with_edges : State → Graph → List Item → List EdgeRow
 with_edges s among [] = s.graph.edges
 with_edges s among (item.Object job row ∷ rest) = with_edges s among rest
 with_edges s among (item.Edge job row from_birth to_birth ∷ rest) =
-    cond (edge_fits s among row.key from_birth to_birth) (put_edge row (with_edges s among rest)) (with_edges s among rest)
+    if edge_fits s among row.key from_birth to_birth then put_edge row (with_edges s among rest) else with_edges s among rest
 
 abbrev pub joined_objects : State → List Item → Graph
 joined_objects s items = record { objects = with_objects s.graph items; edges = s.graph.edges }

@@ -1,4 +1,5 @@
-use Rattle.std.specs.Prelude.{◌≡◌, ℕ, Bool, true, false, cond, ◌&&◌, ◌||◌, not, nat_eq, nat_lt, List, [], ◌∷◌, Option, Some, None, find, filter, map, count_by, is_some, slice_get, IsTrue}
+-- A graph: its rows, the look-ups in them, the changes that an entry makes.
+use Rattle.std.specs.Prelude.{◌≡◌, ℕ, Bool, true, false, ◌&&◌, ◌||◌, not, nat_eq, nat_lt, List, [], ◌∷◌, Option, Some, None, find, filter, map, count_by, is_some, slice_get, IsTrue, if◌then◌else◌}
 use Rattle.std.specs.List.{list_any}
 use Rattle.delf_model.specs.declared.rows.ObjectRow.{ObjectRow}
 use Rattle.delf_model.specs.declared.rows.EdgeKey.{EdgeKey}
@@ -87,13 +88,13 @@ has_refs rules g id = list_any (is_reference rules id) g.edges
 abbrev pub put_object : ObjectRow → List ObjectRow → List ObjectRow
 put_object row [] = row ∷ []
 put_object row (x ∷ xs) =
-    cond (nat_lt row.id x.id) (row ∷ (x ∷ xs)) (cond (nat_eq row.id x.id) (row ∷ xs) (x ∷ put_object row xs))
+    if nat_lt row.id x.id then row ∷ (x ∷ xs) else if nat_eq row.id x.id then row ∷ xs else x ∷ put_object row xs
 
 -- putting a row into its place in the order; a row of the same key gives way
 abbrev pub put_edge : EdgeRow → List EdgeRow → List EdgeRow
 put_edge row [] = row ∷ []
 put_edge row (x ∷ xs) =
-    cond (key_before row.key x.key) (row ∷ (x ∷ xs)) (cond (same_key row.key x.key) (row ∷ xs) (x ∷ put_edge row xs))
+    if key_before row.key x.key then row ∷ (x ∷ xs) else if same_key row.key x.key then row ∷ xs else x ∷ put_edge row xs
 
 abbrev pub is_other_object : ℕ → ObjectRow → Bool
 is_other_object id row = not (has_id id row)
@@ -103,7 +104,7 @@ is_other_edge key row = not (has_key key row)
 
 -- the row with a new payload, given at this position
 abbrev pub rewritten : ℕ → ℕ → ℕ → ObjectRow → ObjectRow
-rewritten id at size row = cond (nat_eq row.id id) (record row { at = at; size = size }) row
+rewritten id at size row = if nat_eq row.id id then record row { at = at; size = size } else row
 
 -- what one entry does to a graph
 pub data Change : Type 0 where

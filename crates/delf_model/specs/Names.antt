@@ -1,3 +1,4 @@
+-- The text of a name.
 use Rattle.std.specs.Prelude.{ℕ, Bool, List, length, ◌&&◌, ◌||◌, nat_le, nat_eq, IsTrue}
 use Rattle.std.specs.List.{list_all}
 

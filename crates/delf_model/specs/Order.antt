@@ -1,26 +1,25 @@
-use Rattle.std.specs.Prelude.{ℕ, ◌+◌, Bool, true, false, cond, ◌&&◌, ◌||◌, not, nat_eq, nat_lt, nat_le, List, [], ◌∷◌, Option, Some, None, find, is_some, is_none}
+-- The steps that no call makes, in the order in which one worker takes them, and which of them a claim holds.
+use Rattle.std.specs.Prelude.{ℕ, ◌+◌, Bool, true, false, ◌&&◌, ◌||◌, not, nat_eq, nat_lt, nat_le, List, [], ◌∷◌, Option, Some, None, find, is_some, is_none, if◌then◌else◌, option_map}
 use Rattle.std.specs.List.{list_any, list_all}
 use Rattle.delf_model.specs.declared.rows.ObjectRow.{ObjectRow}
 use Rattle.delf_model.specs.declared.rows.EdgeRow.{EdgeRow}
 use Rattle.delf_model.specs.declared.entry.What.{What}
-use Rattle.delf_model.specs.declared.entry.What.TheVariants.{Create, Update, Link, Unlink, Delete, Restore, Expire, Cut, Erase, Put, Purge}
+use Rattle.delf_model.specs.declared.entry.What.TheVariants.{Expire, Cut, Erase, Put, Purge}
 use Rattle.delf_model.specs.Graph.{same_key, out_edges, in_edges}
-use Rattle.delf_model.specs.State.{State, JobRow, owner, owned, left, is_pair_of, is_open_of, key_of, first_of_two}
+use Rattle.delf_model.specs.State.{State, JobRow, owner, owned, left, is_pair_of, is_open_of}
+use Rattle.delf_model.specs.Owners.{key_of}
+use Rattle.std.specs.Option.{option_or}
 use Rattle.delf_model.specs.Legal.{is_legal, is_due_row, may_purge}
+use Rattle.delf_model.specs.Room.{may_come}
 
 -- entries that no call makes
 abbrev pub is_step : What → Bool
-is_step (Create tag kind id size) = false
-is_step (Update tag id size) = false
-is_step (Link tag edge from to size) = false
-is_step (Unlink tag edge from to name) = false
-is_step (Delete tag id name) = false
-is_step (Restore tag job) = false
 is_step (Expire id) = true
 is_step (Cut job edge from to) = true
 is_step (Erase job id) = true
 is_step (Put job i) = true
 is_step (Purge job) = true
+is_step what = false
 
 -- a step that may come next at this moment
 abbrev pub is_legal_step : State → ℕ → What → Bool
@@ -31,13 +30,10 @@ is_legal_step s moment what = is_step what && is_legal s (record { moment = mome
 abbrev pub is_restoring : State → JobRow → Bool
 is_restoring s row = is_some row.restored && nat_lt 0 (left s row.start)
 
-abbrev pub is_restored_by : ℕ → Option ℕ → Bool
-is_restored_by position None = false
-is_restored_by position (Some other) = nat_le position other
-
 abbrev pub is_no_older : Option ℕ → Option ℕ → Bool
 is_no_older None other = true
-is_no_older (Some position) other = is_restored_by position other
+is_no_older (Some position) None = false
+is_no_older (Some position) (Some other) = nat_le position other
 
 -- no restoring job was restored before this one
 abbrev pub is_oldest_restoring : State → JobRow → Bool
@@ -47,11 +43,10 @@ is_oldest_restoring s row =
 -- the greatest place whose element passes, counted from this number
 abbrev pub last_place : {A : Type 0} → (A → Bool) → ℕ → List A → Option ℕ
 last_place test i [] = None
-last_place test i (x ∷ xs) = first_of_two (last_place test (i + 1) xs) (cond (test x) (Some i) None)
+last_place test i (x ∷ xs) = option_or (last_place test (i + 1) xs) (if test x then Some i else None)
 
 abbrev pub put_of : ℕ → Option ℕ → Option What
-put_of job None = None
-put_of job (Some i) = Some (Put job i)
+put_of job found = option_map (Put job) found
 
 abbrev pub put_of_job : State → Option JobRow → Option What
 put_of_job s None = None
@@ -72,8 +67,8 @@ cut_or_erase job id [] (row ∷ rows) = Cut job row.key.edge row.key.from row.ke
 cut_or_erase job id [] [] = Erase job id
 
 abbrev pub erasure_of_pair : State → ℕ → Option (ℕ × Option ℕ) → Option What
-erasure_of_pair s job None = None
-erasure_of_pair s job (Some pair) = Some (cut_or_erase job pair.0 (out_edges s.graph pair.0) (in_edges s.graph pair.0))
+erasure_of_pair s job found =
+    option_map (λ pair. cut_or_erase job pair.0 (out_edges s.graph pair.0) (in_edges s.graph pair.0)) found
 
 abbrev pub erasure_of_job : State → Option JobRow → Option What
 erasure_of_job s None = None
@@ -88,8 +83,7 @@ abbrev pub expires : State → ℕ → ObjectRow → Bool
 expires s moment row = is_due_row moment (Some row) && is_none (owner s row.id)
 
 abbrev pub expiry_of : Option ObjectRow → Option What
-expiry_of None = None
-expiry_of (Some row) = Some (Expire row.id)
+expiry_of found = option_map (λ row. Expire row.id) found
 
 abbrev pub first_expiry : State → ℕ → Option What
 first_expiry s moment = expiry_of (find (expires s moment) s.graph.objects)
@@ -100,16 +94,17 @@ abbrev pub purges : State → ℕ → JobRow → Bool
 purges s moment row = may_purge s moment (Some row)
 
 abbrev pub purge_of : Option JobRow → Option What
-purge_of None = None
-purge_of (Some row) = Some (Purge row.start)
+purge_of found = option_map (λ row. Purge row.start) found
 
 abbrev pub first_purge : State → ℕ → Option What
 first_purge s moment = purge_of (find (purges s moment) s.jobs)
 
--- the first legal step of the serial order
+-- the first legal step of the serial order; none at a moment at which no entry may come
 abbrev pub first_step : State → ℕ → Option What
 first_step s moment =
-    first_of_two (first_put s) (first_of_two (first_erasure s) (first_of_two (first_expiry s moment) (first_purge s moment)))
+    if may_come s moment
+    then option_or (first_put s) (option_or (first_erasure s) (option_or (first_expiry s moment) (first_purge s moment)))
+    else None
 
 -- two steps that erase the same row, whichever job they name
 abbrev pub erases_same : What → What → Bool

@@ -1,12 +1,15 @@
-use Rattle.std.specs.Prelude.{◌≡◌, ◌≢◌, ℕ, Bool, true, false, cond, ◌&&◌, ◌||◌, not, nat_eq, List, [], ◌∷◌, ◌++◌, Option, Some, None, find, filter, slice_get}
+-- The payloads of a history: which positions are needed, what is given and sealed, and what carries each payload.
+use Rattle.std.specs.Prelude.{◌≡◌, ◌≢◌, ℕ, Bool, true, false, ◌&&◌, ◌||◌, not, nat_eq, List, [], ◌∷◌, ◌++◌, Option, Some, None, find, filter, slice_get, if◌then◌else◌, option_and_then}
 use Rattle.std.specs.List.{list_any}
 use Rattle.delf_model.specs.declared.rows.ObjectRow.{ObjectRow}
 use Rattle.delf_model.specs.declared.rows.EdgeRow.{EdgeRow}
 use Rattle.delf_model.specs.declared.entry.Entry.{Entry}
 use Rattle.delf_model.specs.declared.entry.What.{What}
-use Rattle.delf_model.specs.declared.entry.What.TheVariants.{Create, Update, Link, Unlink, Delete, Restore, Expire, Cut, Erase, Put, Purge}
+use Rattle.delf_model.specs.declared.entry.What.TheVariants.{Create, Update, Link, Cut, Erase}
 use Rattle.delf_model.specs.Graph.{object_at, edge_at}
-use Rattle.delf_model.specs.State.{State, Logged, Handled, JobRow, step, job_row, job_of, position_of, key_of}
+use Rattle.delf_model.specs.State.{State, Logged, Handled, JobRow, job_row, job_of, position_of}
+use Rattle.delf_model.specs.Step.{step}
+use Rattle.delf_model.specs.Owners.{key_of}
 use Rattle.delf_model.specs.Order.{last_place}
 use Rattle.delf_model.specs.Report.{was_put}
 
@@ -53,7 +56,7 @@ abbrev pub bytes_of_pair : Option (ℕ × List ℕ) → List ℕ
 bytes_of_pair None = []
 bytes_of_pair (Some pair) = pair.1
 
--- the payload at a position
+-- the payload at a position; a position that is not needed has no pair, and then it is empty
 abbrev pub payload_at : Payloads → ℕ → List ℕ
 payload_at e p = bytes_of_pair (find (is_at p) e.bytes)
 
@@ -62,14 +65,7 @@ abbrev pub brought : ℕ → What → List ℕ → List (ℕ × List ℕ)
 brought p (Create tag kind id size) given = (p, given) ∷ []
 brought p (Update tag id size) given = (p, given) ∷ []
 brought p (Link tag edge from to size) given = (p, given) ∷ []
-brought p (Unlink tag edge from to name) given = []
-brought p (Delete tag id name) given = []
-brought p (Restore tag job) given = []
-brought p (Expire id) given = []
-brought p (Cut job edge from to) given = []
-brought p (Erase job id) given = []
-brought p (Put job i) given = []
-brought p (Purge job) given = []
+brought p what given = []
 
 abbrev pub position_of_object : Option ObjectRow → ℕ
 position_of_object None = 0
@@ -81,18 +77,10 @@ position_of_edge (Some row) = row.birth
 
 -- the seal that an erasure adds: the digest of the payload of the row
 abbrev pub sealed : (List ℕ → List ℕ) → State → Payloads → What → List (List ℕ)
-sealed digest s e (Create tag kind id size) = []
-sealed digest s e (Update tag id size) = []
-sealed digest s e (Link tag edge from to size) = []
-sealed digest s e (Unlink tag edge from to name) = []
-sealed digest s e (Delete tag id name) = []
-sealed digest s e (Restore tag job) = []
-sealed digest s e (Expire id) = []
 sealed digest s e (Cut job edge from to) =
     digest (payload_at e (position_of_edge (edge_at s.graph (key_of edge from to)))) ∷ []
 sealed digest s e (Erase job id) = digest (payload_at e (position_of_object (object_at s.graph id))) ∷ []
-sealed digest s e (Put job i) = []
-sealed digest s e (Purge job) = []
+sealed digest s e what = []
 
 abbrev pub is_needed_pair : State → ℕ × List ℕ → Bool
 is_needed_pair s pair = is_needed s pair.0
@@ -114,11 +102,10 @@ holds_position p logged = nat_eq (position_of logged.item) p
 
 abbrev pub carrier_of_item : ℕ → Option Handled → Carrier
 carrier_of_item i None = Vault i
-carrier_of_item i (Some how) = cond (was_put (Some how)) (Journal how.put) (Vault i)
+carrier_of_item i (Some how) = if was_put (Some how) then Journal how.put else Vault i
 
 abbrev pub handled_of : Option Logged → Option Handled
-handled_of None = None
-handled_of (Some logged) = logged.handled
+handled_of found = option_and_then (λ logged. logged.handled) found
 
 abbrev pub carrier_by : State → ℕ → Option ℕ → Carrier
 carrier_by s p None = Journal p
@@ -128,10 +115,6 @@ carrier_by s p (Some i) = carrier_of_item i (handled_of (slice_get s.items i))
 -- or the Put that put this item back
 abbrev pub last_carrier : State → ℕ → Carrier
 last_carrier s p = carrier_by s p (last_place (holds_position p) 0 s.items)
-
-abbrev pub seal_or_none : Option (List ℕ) → List ℕ
-seal_or_none None = []
-seal_or_none (Some seal) = seal
 
 -- an item is damaged where its vault record is the last carrier of its needed position, and its seal is not the
 -- digest of the payload there

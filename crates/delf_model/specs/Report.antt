@@ -1,4 +1,5 @@
-use Rattle.std.specs.Prelude.{ℕ, ◌+◌, Bool, false, cond, ◌&&◌, not, nat_eq, nat_lt, List, [], ◌∷◌, ◌++◌, Option, Some, None, count_by, is_some, is_none, slice_get, option_and_then}
+-- What is told of a job: its counts, its status, its line, and the items that it listed.
+use Rattle.std.specs.Prelude.{ℕ, ◌+◌, Bool, false, ◌&&◌, not, nat_eq, nat_lt, List, [], ◌∷◌, ◌++◌, Option, Some, None, count_by, is_some, is_none, slice_get, option_and_then, if◌then◌else◌, option_map}
 use Rattle.delf_model.specs.declared.rows.Item.{Item}
 use Rattle.delf_model.specs.declared.call.Cause.{Cause}
 use Rattle.delf_model.specs.declared.call.Status.{Status}
@@ -7,7 +8,7 @@ use Rattle.delf_model.specs.declared.call.JobLine.{JobLine}
 use Rattle.delf_model.specs.declared.call.Listed.{Listed}
 use Rattle.delf_model.specs.declared.ids.JobName.{JobName}
 use Rattle.delf_model.specs.State.{State, Logged, Handled, JobRow, owned, left, job_row, find_job, job_of, is_object_item}
-use Rattle.delf_model.specs.Legal.{last_erasure_or_zero}
+use Rattle.delf_model.specs.State.{last_erasure_or_zero}
 
 abbrev pub is_of_job : ℕ → Logged → Bool
 is_of_job job logged = nat_eq (job_of logged.item) job
@@ -51,11 +52,11 @@ listed_count s job = count_by (is_listed_of job) s.items
 -- the status of a job: the first that holds of purged, pending, restoring, restored, done
 abbrev pub status_of_row : State → JobRow → Status
 status_of_row s row =
-    cond row.purged Purged
-    (cond (nat_lt 0 (owned s row.start)) (Pending (owned s row.start))
-    (cond (nat_lt 0 (left s row.start)) (Restoring (left s row.start))
-    (cond (is_some row.restored) (Restored (put_count s row.start) (listed_count s row.start))
-    (Done (erased_count s row.start) (cut_count s row.start) (last_erasure_or_zero row.last)))))
+    if row.purged then Purged
+    else if nat_lt 0 (owned s row.start) then Pending (owned s row.start)
+    else if nat_lt 0 (left s row.start) then Restoring (left s row.start)
+    else if is_some row.restored then Restored (put_count s row.start) (listed_count s row.start)
+    else Done (erased_count s row.start) (cut_count s row.start) (last_erasure_or_zero row.last)
 
 abbrev pub status_or_none : State → Option JobRow → Status
 status_or_none s None = NoJob
@@ -76,8 +77,7 @@ job_line s row = record {
 }
 
 abbrev pub line_of_row : State → Option JobRow → Option JobLine
-line_of_row s None = None
-line_of_row s (Some row) = Some (job_line s row)
+line_of_row s found = option_map (job_line s) found
 
 -- the line of the job at this place, by age
 abbrev pub job_at : State → ℕ → Option JobLine
@@ -95,7 +95,7 @@ listed_by i row (Some how) = listed_with i row how.cause
 abbrev pub listed_from : ℕ → ℕ → List Logged → List Listed
 listed_from job i [] = []
 listed_from job i (x ∷ xs) =
-    listed_from job (i + 1) xs ++ cond (is_of_job job x) (listed_by i x.item x.handled) []
+    listed_from job (i + 1) xs ++ (if is_of_job job x then listed_by i x.item x.handled else [])
 
 -- the listed item of the job at this place, by falling item number
 abbrev pub listed_at : State → ℕ → ℕ → Option Listed

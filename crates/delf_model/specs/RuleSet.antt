@@ -1,8 +1,9 @@
+-- The annotations of a schema, by the numbers of its types.
 use Rattle.std.specs.Prelude.{ℕ, Bool, true, false, List, Option, Some, None, slice_get}
 use Rattle.delf_model.specs.declared.schema.ObjectRule.{ObjectRule}
 use Rattle.delf_model.specs.declared.schema.EdgeShape.{EdgeShape}
 use Rattle.delf_model.specs.declared.schema.EdgeRule.{EdgeRule}
-use Rattle.delf_model.specs.declared.schema.EdgeRule.TheVariants.{Deep, Shallow, Refcount}
+use Rattle.delf_model.specs.declared.schema.EdgeRule.TheVariants.{Deep, Refcount}
 
 -- the annotations by number, as the service reads them: the window in seconds, the rule of each object type,
 -- the ends and the rule of each edge type
@@ -13,13 +14,11 @@ pub record RuleSet : Type 0 where
 
 abbrev pub is_deep_rule : EdgeRule → Bool
 is_deep_rule Deep = true
-is_deep_rule Shallow = false
-is_deep_rule Refcount = false
+is_deep_rule rule = false
 
 abbrev pub is_refcount_rule : EdgeRule → Bool
-is_refcount_rule Deep = false
-is_refcount_rule Shallow = false
 is_refcount_rule Refcount = true
+is_refcount_rule rule = false
 
 abbrev pub is_deep_shape : Option EdgeShape → Bool
 is_deep_shape (Some shape) = is_deep_rule shape.rule

@@ -1,3 +1,4 @@
+-- What every legal history is: what leaves and by whom, what a done job took, what a restore gives back, the room.
 use Rattle.std.specs.Prelude.{◌≡◌, ℕ, ◌+◌, ◌<◌, ◌≤◌, Bool, true, false, ◌||◌, nat_eq, List, Option, Some, None, is_some, length, slice_get, take, count_by}
 use Rattle.delf_model.specs.declared.rows.EdgeKey.{EdgeKey}
 use Rattle.delf_model.specs.declared.rows.Item.{Item}
@@ -8,8 +9,11 @@ use Rattle.delf_model.specs.declared.entry.What.{What}
 use Rattle.delf_model.specs.declared.entry.What.TheVariants.{Unlink, Delete, Restore, Cut, Erase, Put}
 use Rattle.delf_model.specs.RuleSet.{RuleSet}
 use Rattle.delf_model.specs.Graph.{Graph, object_at, edge_at, edge_stands, stands, touches}
-use Rattle.delf_model.specs.State.{State, Logged, Handled, after, owner, owned, left, is_owned_by, job_of, judged, is_restored, job_row}
-use Rattle.delf_model.specs.Legal.{EachStep, room, room_limit, is_end_item}
+use Rattle.delf_model.specs.State.{State, Logged, Handled, owner, owned, left, is_owned_by, job_of, is_restored, job_row}
+use Rattle.delf_model.specs.Step.{after}
+use Rattle.delf_model.specs.Puts.{judged}
+use Rattle.delf_model.specs.Legal.{EachStep, is_end_item}
+use Rattle.delf_model.specs.Room.{room, room_limit}
 use Rattle.delf_model.specs.Order.{is_step, is_legal_step, first_step}
 use Rattle.delf_model.specs.Report.{was_listed}
 use Rattle.delf_model.specs.Payloads.{is_needed}

@@ -1,4 +1,5 @@
-use Rattle.std.specs.Prelude.{ℕ, Bool, true, ◌&&◌, nat_eq, nat_lt, nat_le, List, Option, Some, None, count_by, find, is_some, IsTrue}
+-- What a store of graph rows is asked: the least due object, the references that count, both ends of each edge.
+use Rattle.std.specs.Prelude.{ℕ, Bool, true, ◌&&◌, nat_eq, nat_lt, nat_le, List, Option, Some, None, count_by, find, is_some, IsTrue, option_map}
 use Rattle.delf_model.specs.declared.rows.ObjectRow.{ObjectRow}
 use Rattle.delf_model.specs.declared.rows.EdgeRow.{EdgeRow}
 use Rattle.delf_model.specs.declared.rows.EdgeKey.{EdgeKey}
@@ -19,8 +20,7 @@ abbrev pub is_due_after : ℕ → Option ℕ → ObjectRow → Bool
 is_due_after moment low row = is_above low row.id && nat_lt 0 row.due && nat_le row.due moment
 
 abbrev pub id_of_row : Option ObjectRow → Option ℕ
-id_of_row None = None
-id_of_row (Some row) = Some row.id
+id_of_row found = option_map (λ row. row.id) found
 
 -- the least id above the given one whose due is above 0 and at most the moment
 abbrev pub least_due : ℕ → Option ℕ → List ObjectRow → Option ℕ

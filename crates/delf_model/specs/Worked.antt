@@ -1,3 +1,4 @@
+-- Small histories worked out: what one seat asks, and what it is answered.
 use Rattle.std.specs.Prelude.{ℕ, zero, suc, ◌+◌, List, [], ◌∷◌, ◌++◌, Option, Some, None, Result, Ok, Err}
 use Rattle.delf_model.specs.declared.rows.ObjectRow.{ObjectRow}
 use Rattle.delf_model.specs.declared.rows.EdgeRow.{EdgeRow}
@@ -11,8 +12,10 @@ use Rattle.delf_model.specs.declared.entry.What.{What}
 use Rattle.delf_model.specs.declared.schema.EdgeRule.TheVariants.{Deep, Shallow, Refcount}
 use Rattle.delf_model.specs.declared.schema.ObjectRule.TheVariants.{Directly, ByAny, ShortTtl}
 use Rattle.delf_model.specs.RuleSet.{RuleSet}
-use Rattle.delf_model.specs.State.{State, start, step}
-use Rattle.delf_model.specs.Legal.{moment_of, reply}
+use Rattle.delf_model.specs.State.{State, start}
+use Rattle.delf_model.specs.Step.{step}
+use Rattle.delf_model.specs.Room.{moment_of}
+use Rattle.delf_model.specs.Reply.{reply}
 use Rattle.delf_model.specs.Order.{first_step}
 
 -- what one seat asks of the service, one order after another

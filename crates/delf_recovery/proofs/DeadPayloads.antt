@@ -12,7 +12,8 @@ use Rattle.gate_log.specs.Logs.{Stands, StandIn}
 use Rattle.gate_log.specs.Steps.{MayScrub, Scrubs}
 use Rattle.delf_model.specs.declared.entry.Entry.{Entry}
 use Rattle.delf_model.specs.RuleSet.{RuleSet}
-use Rattle.delf_model.specs.State.{State, after}
+use Rattle.delf_model.specs.State.{State}
+use Rattle.delf_model.specs.Step.{after}
 use Rattle.delf_model.specs.Payloads.{Payloads, Carrier}
 use Rattle.payload_laws.specs.Holders.{IsLive}
 use Rattle.store_laws.specs.Stores.{journal_of, vault_of}

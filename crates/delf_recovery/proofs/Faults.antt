@@ -15,7 +15,8 @@ use Rattle.entry_codec.specs.ItemHead.{IsItemHead, item_head, item_fields}
 use Rattle.delf_model.specs.declared.entry.Entry.{Entry}
 use Rattle.delf_model.specs.declared.rows.Item.{Item}
 use Rattle.delf_model.specs.RuleSet.{RuleSet}
-use Rattle.delf_model.specs.State.{Logged, after}
+use Rattle.delf_model.specs.State.{Logged}
+use Rattle.delf_model.specs.Step.{after}
 use Rattle.delf_model.specs.Payloads.{Payloads}
 use Rattle.store_laws.specs.Logged.{held, IsArea}
 use Rattle.store_laws.specs.Stores.{StandBut, vault_mark, head_in, length_in, seal_in, seals_of, item_heads, logged_size}

@@ -21,7 +21,8 @@ use Rattle.delf_model.specs.declared.rows.Item.{Item}
 use Rattle.delf_model.specs.declared.rows.Item.TheVariants.{Object, Edge}
 use Rattle.delf_model.specs.declared.rows.ObjectRow.{ObjectRow}
 use Rattle.delf_model.specs.RuleSet.{RuleSet}
-use Rattle.delf_model.specs.State.{State, Logged, after, size_of as size_of_item}
+use Rattle.delf_model.specs.State.{State, Logged, size_of as size_of_item}
+use Rattle.delf_model.specs.Step.{after}
 use Rattle.birth_laws.specs.Made.{ItemMade, Gives, ByCreate, ByUpdate}
 use Rattle.birth_laws.proofs.Rows.{rows_made}
 use Rattle.job_table.specs.Table.{item_at}

@@ -17,7 +17,9 @@ use Rattle.delf_model.specs.declared.entry.What.{What}
 use Rattle.delf_model.specs.declared.entry.What.TheVariants.{Create, Update, Link, Unlink, Delete, Restore, Expire, Cut, Erase, Put, Purge}
 use Rattle.delf_model.specs.declared.rows.Item.{Item}
 use Rattle.delf_model.specs.RuleSet.{RuleSet}
-use Rattle.delf_model.specs.State.{State, Logged, start, step, run, after, judged, size_of as item_size_of}
+use Rattle.delf_model.specs.State.{State, Logged, start, size_of as item_size_of}
+use Rattle.delf_model.specs.Step.{step, run, after}
+use Rattle.delf_model.specs.Puts.{judged}
 use Rattle.delf_model.specs.Legal.{is_legal}
 use Rattle.delf_model.proofs.Runs.{Legal_push}
 use Rattle.job_table.specs.Table.{item_at}

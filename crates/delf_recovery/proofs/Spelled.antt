@@ -13,7 +13,9 @@ use Rattle.delf_model.specs.declared.entry.Entry.{Entry}
 use Rattle.delf_model.specs.declared.entry.What.{What}
 use Rattle.delf_model.specs.declared.entry.What.TheVariants.{Create, Update, Link, Unlink, Delete, Restore, Expire, Cut, Erase, Put, Purge}
 use Rattle.delf_model.specs.RuleSet.{RuleSet}
-use Rattle.delf_model.specs.State.{State, Logged, start, step, after, judged, size_of}
+use Rattle.delf_model.specs.State.{State, Logged, start, size_of}
+use Rattle.delf_model.specs.Step.{step, after}
+use Rattle.delf_model.specs.Puts.{judged}
 use Rattle.delf_model.specs.Legal.{Legal, is_legal, is_legal_from}
 use Rattle.delf_model.specs.Payloads.{Payloads}
 use Rattle.delf_model.proofs.Runs.{after_push}

@@ -14,7 +14,8 @@ use Rattle.entry_codec.specs.ItemHead.{item_head, item_fields, item_size, IsItem
 use Rattle.delf_model.specs.declared.entry.Entry.{Entry}
 use Rattle.delf_model.specs.declared.rows.Item.{Item}
 use Rattle.delf_model.specs.RuleSet.{RuleSet}
-use Rattle.delf_model.specs.State.{Logged, start, after}
+use Rattle.delf_model.specs.State.{Logged, start}
+use Rattle.delf_model.specs.Step.{after}
 use Rattle.delf_model.specs.Legal.{Legal, is_legal}
 use Rattle.payload_laws.specs.Holders.{record_size}
 use Rattle.ledger.specs.Ledgers.{Ledgered, state_of, IsSame, HasEntered}

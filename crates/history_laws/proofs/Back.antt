@@ -14,7 +14,11 @@ use Rattle.delf_model.specs.declared.entry.Entry.{Entry}
 use Rattle.delf_model.specs.declared.entry.What.{What}
 use Rattle.delf_model.specs.declared.entry.What.TheVariants.{Create, Update, Link, Unlink, Delete, Restore, Expire, Cut, Erase, Put, Purge}
 use Rattle.delf_model.specs.Graph.{Graph, TakesEdge, changed, same_key, object_at, edge_at, edge_stands, stands, is_born_at, touches}
-use Rattle.delf_model.specs.State.{State, Logged, Handled, step, owner, is_owned_by, key_of, items_after, edge_item, object_item, unhandled, handled_at, outcome, judged, taken, end_cause, end_condemned, key_taken, first_of_two, put_of_item, put_unless, put_change, job_of, birth_of, birth_of_row, condemns, is_restored}
+use Rattle.delf_model.specs.State.{State, Logged, Handled, owner, is_owned_by, job_of, is_restored}
+use Rattle.delf_model.specs.Step.{step, items_after, edge_item, object_item, unhandled, handled_at, outcome, put_of_item, put_unless, put_change, birth_of, birth_of_row}
+use Rattle.delf_model.specs.Owners.{key_of, condemns}
+use Rattle.delf_model.specs.Puts.{judged, taken, end_cause, end_condemned, key_taken}
+use Rattle.std.specs.Option.{option_or}
 use Rattle.delf_model.specs.Legal.{is_legal, is_handled_end, end_handled, ends_handled}
 use Rattle.delf_model.specs.Report.{was_listed}
 use Rattle.delf_model.specs.Closure.{has, LeavesAlone, names, is_step_of, erased_item, cut_item}
@@ -393,7 +397,7 @@ no_end : (s : State) (id birth : ℕ) → stands s.graph id birth ≡ true → o
 no_end s id birth stood free =
     ap (λ (b : Bool). cond b (end_condemned id (owner s id)) (Some (cause.EndMissing id))) stood ∙ ap (end_condemned id) free
 
-no_cause : (a b c : Option Cause) → a ≡ None → b ≡ None → c ≡ None → first_of_two a (first_of_two b c) ≡ None
+no_cause : (a b c : Option Cause) → a ≡ None → b ≡ None → c ≡ None → option_or a (option_or b c) ≡ None
 no_cause None None c one two three = three
 no_cause None (Some x) c one two three = two
 no_cause (Some x) b c one two three = one

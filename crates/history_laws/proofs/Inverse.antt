@@ -12,7 +12,8 @@ use Rattle.delf_model.specs.declared.call.Cause.{Cause}
 use Rattle.delf_model.specs.declared.entry.Entry.{Entry}
 use Rattle.delf_model.specs.RuleSet.{RuleSet}
 use Rattle.delf_model.specs.Graph.{Graph, object_at, edge_at, edge_stands, same_key, touches}
-use Rattle.delf_model.specs.State.{State, Logged, Handled, start, step, after, job_of, is_owned_by}
+use Rattle.delf_model.specs.State.{State, Logged, Handled, start, job_of, is_owned_by}
+use Rattle.delf_model.specs.Step.{step, after}
 use Rattle.delf_model.specs.Legal.{Legal}
 use Rattle.delf_model.specs.Report.{was_put, was_listed}
 use Rattle.delf_model.specs.Payloads.{is_needed, object_needs, edge_needs, item_needs}

@@ -10,7 +10,9 @@ use Rattle.delf_model.specs.declared.rows.Item.TheVariants as item
 use Rattle.delf_model.specs.declared.entry.What.{What}
 use Rattle.delf_model.specs.declared.entry.What.TheVariants.{Create, Update, Link, Unlink, Delete, Restore, Expire, Cut, Erase, Put, Purge}
 use Rattle.delf_model.specs.Graph.{object_at, edge_at, edge_stands}
-use Rattle.delf_model.specs.State.{State, Logged, Handled, items_after, edge_item, object_item, unhandled, handled_at, outcome, job_of, key_of, birth_of, is_owned_by}
+use Rattle.delf_model.specs.State.{State, Logged, Handled, job_of, is_owned_by}
+use Rattle.delf_model.specs.Step.{items_after, edge_item, object_item, unhandled, handled_at, outcome, birth_of}
+use Rattle.delf_model.specs.Owners.{key_of}
 use Rattle.delf_model.specs.Legal.{is_allowed}
 use Rattle.delf_model.specs.Closure.{is_step_of}
 use Rattle.delf_model.specs.Sound.{is_put_by}

@@ -11,7 +11,9 @@ use Rattle.delf_model.specs.declared.entry.Entry.{Entry}
 use Rattle.delf_model.specs.declared.entry.What.{What}
 use Rattle.delf_model.specs.declared.entry.What.TheVariants.{Create, Update, Link, Unlink, Delete, Restore, Expire, Cut, Erase, Put, Purge}
 use Rattle.delf_model.specs.Graph.{object_at, edge_at, edge_stands}
-use Rattle.delf_model.specs.State.{State, Logged, Handled, JobRow, step, is_owned_by, key_of, items_after, jobs_after, unhandled, handled_at, job_of, job_row, restored_at, erased_at}
+use Rattle.delf_model.specs.State.{State, Logged, Handled, JobRow, is_owned_by, job_of, job_row}
+use Rattle.delf_model.specs.Step.{step, items_after, jobs_after, unhandled, handled_at, row_restored_at, erased_at}
+use Rattle.delf_model.specs.Owners.{key_of}
 use Rattle.delf_model.specs.Legal.{is_legal, is_allowed}
 use Rattle.delf_model.specs.Report.{was_put}
 use Rattle.delf_model.specs.Payloads.{is_purged, is_purged_row, item_needs}
@@ -67,7 +69,7 @@ names_own f s moment (Purge which) whole good line back own id outside = absurd 
 
 -- own entries purge nothing
 
-purged_restored : (job position : ℕ) (o : Option JobRow) → is_purged_row (option_map (restored_at job position) o) ≡ is_purged_row o
+purged_restored : (job position : ℕ) (o : Option JobRow) → is_purged_row (option_map (row_restored_at job position) o) ≡ is_purged_row o
 purged_restored job position None = refl
 purged_restored job position (Some row) = by_hit (eqb row.start job)
   where

@@ -6,7 +6,9 @@ use Rattle.std.specs.List.{list_all}
 use Rattle.delf_model.specs.declared.rows.EdgeKey.{EdgeKey}
 use Rattle.delf_model.specs.declared.entry.Entry.{Entry}
 use Rattle.delf_model.specs.Graph.{edge_stands, same_key}
-use Rattle.delf_model.specs.State.{State, Logged, step, run, after, owner, key_of}
+use Rattle.delf_model.specs.State.{State, Logged, owner}
+use Rattle.delf_model.specs.Step.{step, run, after}
+use Rattle.delf_model.specs.Owners.{key_of}
 use Rattle.delf_model.specs.Closure.{has, Calm, LeavesAlone}
 use Rattle.delf_model.specs.Sound.{is_own_entry}
 use Rattle.delf_model.specs.Worked.{example_rules, owning, edge}

@@ -11,7 +11,8 @@ use Rattle.delf_model.specs.declared.rows.Item.TheVariants as item
 use Rattle.delf_model.specs.declared.entry.Entry.{Entry}
 use Rattle.delf_model.specs.declared.entry.What.TheVariants.{Erase, Put, Delete}
 use Rattle.delf_model.specs.Graph.{object_at, same_key}
-use Rattle.delf_model.specs.State.{step, after, key_of}
+use Rattle.delf_model.specs.Step.{step, after}
+use Rattle.delf_model.specs.Owners.{key_of}
 use Rattle.delf_model.specs.Closure.{has, IsClosed, Calm}
 use Rattle.delf_model.specs.Sound.{ObjectsLeave, DoneErasesReached, TookClosure, PutsAreJudged, DistinctIds, object_id_of, OnlyPuts, is_put_by, RestoreIsUnion, PutBack}
 use Rattle.delf_model.specs.Worked.{example_rules, owning, edge}

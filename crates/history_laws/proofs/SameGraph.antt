@@ -14,7 +14,10 @@ use Rattle.delf_model.specs.declared.entry.What.{What}
 use Rattle.delf_model.specs.declared.entry.What.TheVariants.{Create, Update, Link, Unlink, Delete, Restore, Expire, Cut, Erase, Put, Purge}
 use Rattle.delf_model.specs.RuleSet.{RuleSet}
 use Rattle.delf_model.specs.Graph.{Graph, object_at, edge_at, has_id, has_key, same_key, key_before, objects_rise, rises_after, edges_rise, keys_rise_after, put_object, put_edge, is_other_edge, changed}
-use Rattle.delf_model.specs.State.{State, Logged, start, after, graph_after, judged, put_change, put_unless, key_of}
+use Rattle.delf_model.specs.State.{State, Logged, start}
+use Rattle.delf_model.specs.Step.{after, graph_after, put_change, put_unless}
+use Rattle.delf_model.specs.Puts.{judged}
+use Rattle.delf_model.specs.Owners.{key_of}
 use Rattle.delf_model.specs.Legal.{Legal}
 use Rattle.delf_model.proofs.Runs.{good_run}
 use Rattle.delf_model.proofs.Graphs.{same_key_is, same_key_refl}

@@ -14,8 +14,12 @@ use Rattle.delf_model.specs.declared.entry.What.{What}
 use Rattle.delf_model.specs.declared.entry.What.TheVariants.{Link, Unlink, Restore, Cut, Erase, Put}
 use Rattle.delf_model.specs.RuleSet.{RuleSet}
 use Rattle.delf_model.specs.Graph.{Graph, has_id, same_key, object_at, edge_at, edge_stands, stands, is_born_at, changed}
-use Rattle.delf_model.specs.State.{State, Logged, Handled, JobRow, start, step, after, owner, is_owned_by, graph_after, jobs_after, items_after, key_of, edge_item, object_item, unhandled, handled_at, outcome, judged, put_change, put_unless, job_of, is_restored, is_restored_row, birth_of, birth_of_row, restored_at, new_edge}
-use Rattle.delf_model.specs.Legal.{is_legal, is_allowed, Legal, is_end_item, refusals}
+use Rattle.delf_model.specs.State.{State, Logged, Handled, JobRow, start, owner, is_owned_by, job_of, is_restored, is_restored_row}
+use Rattle.delf_model.specs.Step.{step, after, graph_after, jobs_after, items_after, edge_item, object_item, unhandled, handled_at, outcome, put_change, put_unless, birth_of, birth_of_row, row_restored_at, new_edge}
+use Rattle.delf_model.specs.Owners.{key_of}
+use Rattle.delf_model.specs.Puts.{judged}
+use Rattle.delf_model.specs.Legal.{is_legal, is_allowed, Legal, is_end_item}
+use Rattle.delf_model.specs.Reply.{refusals}
 use Rattle.delf_model.specs.Sound.{is_erasure_of, erasures}
 use Rattle.std.specs.Option.{option_map}
 use Rattle.delf_model.proofs.Runs.{good_take}
@@ -56,7 +60,7 @@ each_after P s what old new = old
 
 -- a job that is not restored after an entry was not before
 
-row_was : (which len : ℕ) (o : Option JobRow) → is_restored_row (option_map (restored_at which len) o) ≡ false → is_restored_row o ≡ false
+row_was : (which len : ℕ) (o : Option JobRow) → is_restored_row (option_map (row_restored_at which len) o) ≡ false → is_restored_row o ≡ false
 row_was which len None free = refl
 row_was which len (Some row) free = by_hit (eqb row.start which) free
   where

@@ -16,8 +16,12 @@ use Rattle.delf_model.specs.declared.entry.What.{What}
 use Rattle.delf_model.specs.declared.entry.What.TheVariants.{Restore, Put}
 use Rattle.delf_model.specs.RuleSet.{RuleSet}
 use Rattle.delf_model.specs.Graph.{Graph, same_key, object_at, edge_at, edge_stands, stands, is_born_at, put_object, put_edge, changed}
-use Rattle.delf_model.specs.State.{State, Logged, Handled, JobRow, start, step, after, owner, job_row, handled_at, outcome, judged, taken, end_cause, end_condemned, key_taken, put_change, put_unless, job_of, is_restored, is_restored_row, restored_at, first_of_two}
-use Rattle.delf_model.specs.Legal.{is_legal, is_allowed, Legal, end_handled, ends_handled, refusals, restored_before, restored_by, is_named_so, refused}
+use Rattle.delf_model.specs.State.{State, Logged, Handled, JobRow, start, owner, job_row, job_of, is_restored, is_restored_row}
+use Rattle.delf_model.specs.Step.{step, after, handled_at, outcome, put_change, put_unless, row_restored_at}
+use Rattle.delf_model.specs.Puts.{judged, taken, end_cause, end_condemned, key_taken}
+use Rattle.std.specs.Option.{option_or}
+use Rattle.delf_model.specs.Legal.{is_legal, is_allowed, Legal, end_handled, ends_handled, is_named_so}
+use Rattle.delf_model.specs.Reply.{refusals, restored_before, restored_by, refused}
 use Rattle.delf_model.specs.Closure.{items_of_job, with_objects, with_edges, joined_objects, edge_fits, end_fits, union}
 use Rattle.delf_model.specs.Report.{is_of_job}
 use Rattle.delf_model.specs.Sound.{object_id_of, DistinctIds, OnlyPuts, RestoreIsUnion, is_put_by}
@@ -42,8 +46,8 @@ among s job = joined_objects s (items_of_job job s.items)
 
 -- the rows of a graph are those of the state and the values of the handled items
 pub record Rows (s : State) (job : ℕ) (now : Graph) (items : List Logged) : Type 0 where
-  pub objects : (id : ℕ) → object_at now id ≡ first_of_two (first_of (object_val s.graph id) (is_done job) items) (object_at s.graph id)
-  pub edges : (key : EdgeKey) → edge_at now key ≡ first_of_two (first_of (edge_val s (among s job) key) (is_done job) items) (edge_at s.graph key)
+  pub objects : (id : ℕ) → object_at now id ≡ option_or (first_of (object_val s.graph id) (is_done job) items) (object_at s.graph id)
+  pub edges : (key : EdgeKey) → edge_at now key ≡ option_or (first_of (edge_val s (among s job) key) (is_done job) items) (edge_at s.graph key)
 
 pub record Between (s : State) (job : ℕ) (t : State) : Type 0 where
   pub same : items_of_job job t.items ≡ items_of_job job s.items
@@ -59,16 +63,16 @@ pub record PutHere (s : State) (job : ℕ) (t : State) (i : ℕ) : Type 0 where
 
 -- the ends of an edge
 
-right_none : {A : Type 0} (o : Option A) → first_of_two o None ≡ o
+right_none : {A : Type 0} (o : Option A) → option_or o None ≡ o
 right_none None = refl
 right_none (Some x) = refl
 
 among_at : (s : State) (job : ℕ) (t : State) → Between s job t → (id : ℕ) →
-    object_at (among s job) id ≡ first_of_two (first_of (object_val s.graph id) (is_of_job job) t.items) (object_at s.graph id)
+    object_at (among s job) id ≡ option_or (first_of (object_val s.graph id) (is_of_job job) t.items) (object_at s.graph id)
 among_at s job t between id =
     find-with_objects s.graph (items_of_job job s.items) id ∙
-    (ap (λ (items : List Item). first_of_two (first_item (object_val s.graph id) items) (object_at s.graph id)) (sym between.same) ∙
-    ap (λ (o : Option ObjectRow). first_of_two o (object_at s.graph id)) (first_items (object_val s.graph id) job t.items))
+    (ap (λ (items : List Item). option_or (first_item (object_val s.graph id) items) (object_at s.graph id)) (sym between.same) ∙
+    ap (λ (o : Option ObjectRow). option_or o (object_at s.graph id)) (first_items (object_val s.graph id) job t.items))
 
 -- an end whose object items are handled stands exactly where it stands among all
 ends_same : (s : State) (job : ℕ) (t : State) → Between s job t → Apart job t.items → (id birth : ℕ) → end_handled t.items job id birth ≡ true →
@@ -78,16 +82,16 @@ ends_same s job t between apart id birth handled =
     (by_row (object_at s.graph id) refl ∙ ap (is_born_at birth) (sym (among_at s job t between id)))
   where
     by_row : (o : Option ObjectRow) → object_at s.graph id ≡ o →
-        is_born_at birth (first_of_two (first_of (object_val s.graph id) (is_done job) t.items) (object_at s.graph id)) ≡
-        is_born_at birth (first_of_two (first_of (object_val s.graph id) (is_of_job job) t.items) (object_at s.graph id))
+        is_born_at birth (option_or (first_of (object_val s.graph id) (is_done job) t.items) (object_at s.graph id)) ≡
+        is_born_at birth (option_or (first_of (object_val s.graph id) (is_of_job job) t.items) (object_at s.graph id))
     by_row None at =
-        ap (λ (o : Option ObjectRow). is_born_at birth (first_of_two (first_of (object_val s.graph id) (is_done job) t.items) o)) at ∙
+        ap (λ (o : Option ObjectRow). is_born_at birth (option_or (first_of (object_val s.graph id) (is_done job) t.items) o)) at ∙
         (ap (is_born_at birth) (right_none (first_of (object_val s.graph id) (is_done job) t.items)) ∙
         (born_same s.graph job id birth t.items apart handled ∙
         (ap (is_born_at birth) (sym (right_none (first_of (object_val s.graph id) (is_of_job job) t.items))) ∙
-        ap (λ (o : Option ObjectRow). is_born_at birth (first_of_two (first_of (object_val s.graph id) (is_of_job job) t.items) o)) (sym at))))
+        ap (λ (o : Option ObjectRow). is_born_at birth (option_or (first_of (object_val s.graph id) (is_of_job job) t.items) o)) (sym at))))
     by_row (Some row) at =
-        ap (λ (o : Option ObjectRow). is_born_at birth (first_of_two o (object_at s.graph id)))
+        ap (λ (o : Option ObjectRow). is_born_at birth (option_or o (object_at s.graph id)))
         (first_none (object_val s.graph id) (is_done job) t.items (λ j y there passes. taken_none s.graph id y.item (ap (λ (o : Option ObjectRow). is_some o) at)) ∙
         sym (first_none (object_val s.graph id) (is_of_job job) t.items (λ j y there passes. taken_none s.graph id y.item (ap (λ (o : Option ObjectRow). is_some o) at))))
 
@@ -95,8 +99,8 @@ ends_same s job t between apart id birth handled =
 kept_rows : (s : State) (job : ℕ) (now : Graph) (items : List Logged) (i : ℕ) (how : Handled) (l : Logged) → Rows s job now items → slice_get items i ≡ Some l →
     ((id : ℕ) → object_val s.graph id l.item ≡ None) → ((key : EdgeKey) → edge_val s (among s job) key l.item ≡ None) → Rows s job now (handled_at items i how)
 kept_rows s job now items i how l rows at no_object no_edge = record {
-  objects = λ id. rows.objects id ∙ ap (λ (o : Option ObjectRow). first_of_two o (object_at s.graph id)) (sym (marked_none (object_val s.graph id) job items i how l at (no_object id)));
-  edges = λ key. rows.edges key ∙ ap (λ (o : Option EdgeRow). first_of_two o (edge_at s.graph key)) (sym (marked_none (edge_val s (among s job) key) job items i how l at (no_edge key)));
+  objects = λ id. rows.objects id ∙ ap (λ (o : Option ObjectRow). option_or o (object_at s.graph id)) (sym (marked_none (object_val s.graph id) job items i how l at (no_object id)));
+  edges = λ key. rows.edges key ∙ ap (λ (o : Option EdgeRow). option_or o (edge_at s.graph key)) (sym (marked_none (edge_val s (among s job) key) job items i how l at (no_edge key)));
 }
 
 -- the put of an object
@@ -120,7 +124,7 @@ object_put s job t i how which row here is = by_free (object_at s.graph row.id) 
     before : object_at t.graph row.id ≡ object_at s.graph row.id
     before =
         here.between.rows.objects row.id ∙
-        ap (λ (o : Option ObjectRow). first_of_two o (object_at s.graph row.id))
+        ap (λ (o : Option ObjectRow). option_or o (object_at s.graph row.id))
         (before_none (object_val s.graph row.id) job t.items i here.may.logged here.may.at here.may.waiting (only row.id refl))
 
     value_is : (id : ℕ) (o : Option ObjectRow) → object_at s.graph row.id ≡ o → (hit : Bool) → eqb row.id id ≡ hit → object_val s.graph id here.may.logged.item ≡ cond (is_some o) None (cond hit (Some row) None)
@@ -129,13 +133,13 @@ object_put s job t i how which row here is = by_free (object_at s.graph row.id) 
         (ap (λ (p : Option ObjectRow). cond (is_some p) None (cond (eqb row.id id) (Some row) None)) at ∙ ap (λ (b : Bool). cond (is_some o) None (cond b (Some row) None)) found)
 
     by_hit : object_at s.graph row.id ≡ None → (id : ℕ) (hit : Bool) → eqb row.id id ≡ hit →
-        cond hit (Some row) (object_at t.graph id) ≡ first_of_two (first_of (object_val s.graph id) (is_done job) (handled_at t.items i how)) (object_at s.graph id)
+        cond hit (Some row) (object_at t.graph id) ≡ option_or (first_of (object_val s.graph id) (is_done job) (handled_at t.items i how)) (object_at s.graph id)
     by_hit at id true found =
-        sym (ap (λ (o : Option ObjectRow). first_of_two o (object_at s.graph id))
+        sym (ap (λ (o : Option ObjectRow). option_or o (object_at s.graph id))
         (marked_some (object_val s.graph id) job t.items i how here.may.logged row here.may.at mine (value_is id None at true found) (only id (eqb-true row.id id found))))
     by_hit at id false found =
         here.between.rows.objects id ∙
-        ap (λ (o : Option ObjectRow). first_of_two o (object_at s.graph id)) (sym (marked_none (object_val s.graph id) job t.items i how here.may.logged here.may.at (value_is id None at false found)))
+        ap (λ (o : Option ObjectRow). option_or o (object_at s.graph id)) (sym (marked_none (object_val s.graph id) job t.items i how here.may.logged here.may.at (value_is id None at false found)))
 
     by_free : (o : Option ObjectRow) → object_at s.graph row.id ≡ o → Rows s job (changed t.graph (put_unless (taken (object_at t.graph row.id)) (item.Object which row))) (handled_at t.items i how)
     by_free (Some r) at =
@@ -147,7 +151,7 @@ object_put s job t i how which row here is = by_free (object_at s.graph row.id) 
           objects = λ id. find-put_object row t.graph.objects id ∙ by_hit at id (eqb row.id id) refl;
           edges = λ key.
               here.between.rows.edges key ∙
-              ap (λ (o : Option EdgeRow). first_of_two o (edge_at s.graph key)) (sym (marked_none (edge_val s (among s job) key) job t.items i how here.may.logged here.may.at (ap (edge_val s (among s job) key) is)));
+              ap (λ (o : Option EdgeRow). option_or o (edge_at s.graph key)) (sym (marked_none (edge_val s (among s job) key) job t.items i how here.may.logged here.may.at (ap (edge_val s (among s job) key) is)));
         })
 
 -- what it says that an edge fits
@@ -195,9 +199,9 @@ end_cause_none t id birth stood own =
 
 judged_none : (t : State) (which : ℕ) (row : EdgeRow) (from_birth to_birth : ℕ) → FitParts t t.graph row.key from_birth to_birth → judged t (item.Edge which row from_birth to_birth) ≡ None
 judged_none t which row from_birth to_birth parts =
-    ap (λ (o : Option Cause). first_of_two o (first_of_two (end_cause t row.key.to to_birth) (key_taken (edge_at t.graph row.key))))
+    ap (λ (o : Option Cause). option_or o (option_or (end_cause t row.key.to to_birth) (key_taken (edge_at t.graph row.key))))
     (end_cause_none t row.key.from from_birth parts.source parts.source_free) ∙
-    (ap (λ (o : Option Cause). first_of_two o (key_taken (edge_at t.graph row.key))) (end_cause_none t row.key.to to_birth parts.target parts.target_free) ∙
+    (ap (λ (o : Option Cause). option_or o (key_taken (edge_at t.graph row.key))) (end_cause_none t row.key.to to_birth parts.target parts.target_free) ∙
     ap key_taken parts.key_is_free)
 
 twin_is : (a b : ℕ) (x y : EdgeRow) (from to from' to' : ℕ) → a ≡ b → x.key ≡ y.key → from ≡ from' → to ≡ to' → is_twin (item.Edge a x from to) (item.Edge b y from' to') ≡ true
@@ -211,7 +215,7 @@ born_both : (one two : ℕ) (o : Option ObjectRow) → is_born_at one o ≡ true
 born_both one two None a b = absurd (false≢true a)
 born_both one two (Some row) a b = sym (eqb-true row.birth one a) ∙ eqb-true row.birth two b
 
-second_none : {A : Type 0} (o p : Option A) → first_of_two o p ≡ None → p ≡ None
+second_none : {A : Type 0} (o p : Option A) → option_or o p ≡ None → p ≡ None
 second_none None p none = none
 second_none (Some x) p none = absurd (cc none)
 
@@ -282,7 +286,7 @@ edge_put s job t i how which row from_birth to_birth here is = by_fit (edge_fits
         record {
           key_is_free =
               here.between.rows.edges row.key ∙
-              (ap (λ (o : Option EdgeRow). first_of_two o (edge_at s.graph row.key))
+              (ap (λ (o : Option EdgeRow). option_or o (edge_at s.graph row.key))
               (before_none (edge_val s (among s job) row.key) job t.items i here.may.logged here.may.at here.may.waiting (only fits row.key (same_key_refl row.key))) ∙ parts.key_is_free);
           source = source_same ∙ parts.source;
           source_free = here.between.owners row.key.from ∙ parts.source_free;
@@ -301,13 +305,13 @@ edge_put s job t i how which row from_birth to_birth here is = by_fit (edge_fits
         })
 
     by_hit : edge_fits s (among s job) row.key from_birth to_birth ≡ true → (key : EdgeKey) (hit : Bool) → same_key row.key key ≡ hit →
-        cond hit (Some row) (edge_at t.graph key) ≡ first_of_two (first_of (edge_val s (among s job) key) (is_done job) (handled_at t.items i how)) (edge_at s.graph key)
+        cond hit (Some row) (edge_at t.graph key) ≡ option_or (first_of (edge_val s (among s job) key) (is_done job) (handled_at t.items i how)) (edge_at s.graph key)
     by_hit fits key true found =
-        sym (ap (λ (o : Option EdgeRow). first_of_two o (edge_at s.graph key))
+        sym (ap (λ (o : Option EdgeRow). option_or o (edge_at s.graph key))
         (marked_some (edge_val s (among s job) key) job t.items i how here.may.logged row here.may.at mine (value_is key true fits true found) (only fits key found)))
     by_hit fits key false found =
         here.between.rows.edges key ∙
-        ap (λ (o : Option EdgeRow). first_of_two o (edge_at s.graph key)) (sym (marked_none (edge_val s (among s job) key) job t.items i how here.may.logged here.may.at (value_is key true fits false found)))
+        ap (λ (o : Option EdgeRow). option_or o (edge_at s.graph key)) (sym (marked_none (edge_val s (among s job) key) job t.items i how here.may.logged here.may.at (value_is key true fits false found)))
 
     by_judged : edge_fits s (among s job) row.key from_birth to_birth ≡ false → (o : Option Cause) → judged t (item.Edge which row from_birth to_birth) ≡ o →
         Rows s job (changed t.graph (put_unless o (item.Edge which row from_birth to_birth))) (handled_at t.items i how)
@@ -324,7 +328,7 @@ edge_put s job t i how which row from_birth to_birth here is = by_fit (edge_fits
         (record {
           objects = λ id.
               here.between.rows.objects id ∙
-              ap (λ (o : Option ObjectRow). first_of_two o (object_at s.graph id)) (sym (marked_none (object_val s.graph id) job t.items i how here.may.logged here.may.at (no_object id)));
+              ap (λ (o : Option ObjectRow). option_or o (object_at s.graph id)) (sym (marked_none (object_val s.graph id) job t.items i how here.may.logged here.may.at (no_object id)));
           edges = λ key. find-put_edge row t.graph.edges key ∙ by_hit fits key (same_key row.key key) refl;
         })
 
@@ -427,7 +431,7 @@ restored_free (Some row) none = by_position row.restored none
     by_position None here = refl
     by_position (Some n) here = absurd (cc here)
 
-is_restored_now : (job len : ℕ) (jobs : List JobRow) (o : Option JobRow) → job_row jobs job ≡ o → is_some o ≡ true → is_restored_row (option_map (restored_at job len) o) ≡ true
+is_restored_now : (job len : ℕ) (jobs : List JobRow) (o : Option JobRow) → job_row jobs job ≡ o → is_some o ≡ true → is_restored_row (option_map (row_restored_at job len) o) ≡ true
 is_restored_now job len jobs None at some = absurd (false≢true some)
 is_restored_now job len jobs (Some row) at some =
     ap (λ (b : Bool). is_restored_row (Some (cond b (record row { restored = Some len }) row))) (found_start job jobs row at)
@@ -464,10 +468,10 @@ between_start s job restored = record {
   owners = λ id. refl;
   rows = record {
     objects = λ id.
-        sym (ap (λ (o : Option ObjectRow). first_of_two o (object_at s.graph id))
+        sym (ap (λ (o : Option ObjectRow). option_or o (object_at s.graph id))
         (first_none (object_val s.graph id) (is_done job) s.items (λ j y at done. absurd (restored.waiting j y at done))));
     edges = λ key.
-        sym (ap (λ (o : Option EdgeRow). first_of_two o (edge_at s.graph key))
+        sym (ap (λ (o : Option EdgeRow). option_or o (edge_at s.graph key))
         (first_none (edge_val s (among s job) key) (is_done job) s.items (λ j y at done. absurd (restored.waiting j y at done))));
   };
 }
@@ -502,12 +506,12 @@ at_end s job t between handled s_objects s_edges t_objects t_edges =
     (with_objects_sorted s.graph (items_of_job job s.items) s_objects) (with_edges_sorted s (among s job) (items_of_job job s.items) s_edges)
     (λ id.
     between.rows.objects id ∙
-    (ap (λ (o : Option ObjectRow). first_of_two o (object_at s.graph id)) (all_done (object_val s.graph id) job t.items handled) ∙ sym (among_at s job t between id)))
+    (ap (λ (o : Option ObjectRow). option_or o (object_at s.graph id)) (all_done (object_val s.graph id) job t.items handled) ∙ sym (among_at s job t between id)))
     (λ key.
     between.rows.edges key ∙
-    (ap (λ (o : Option EdgeRow). first_of_two o (edge_at s.graph key)) (all_done (edge_val s (among s job) key) job t.items handled) ∙
-    (ap (λ (o : Option EdgeRow). first_of_two o (edge_at s.graph key)) (sym (first_items (edge_val s (among s job) key) job t.items)) ∙
-    (ap (λ (items : List Item). first_of_two (first_item (edge_val s (among s job) key) items) (edge_at s.graph key)) between.same ∙
+    (ap (λ (o : Option EdgeRow). option_or o (edge_at s.graph key)) (all_done (edge_val s (among s job) key) job t.items handled) ∙
+    (ap (λ (o : Option EdgeRow). option_or o (edge_at s.graph key)) (sym (first_items (edge_val s (among s job) key) job t.items)) ∙
+    (ap (λ (items : List Item). option_or (first_item (edge_val s (among s job) key) items) (edge_at s.graph key)) between.same ∙
     sym (find-with_edges s (among s job) (items_of_job job s.items) key))))) ∙
     ap (union s) (sym between.same)
 

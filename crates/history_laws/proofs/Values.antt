@@ -9,7 +9,9 @@ use Rattle.delf_model.specs.declared.rows.EdgeRow.{EdgeRow}
 use Rattle.delf_model.specs.declared.rows.Item.{Item}
 use Rattle.delf_model.specs.declared.rows.Item.TheVariants as item
 use Rattle.delf_model.specs.Graph.{Graph, has_id, has_key, same_key, object_at, edge_at, is_born_at, put_object, put_edge}
-use Rattle.delf_model.specs.State.{State, Logged, Handled, handled_at, job_of, first_of_two}
+use Rattle.delf_model.specs.State.{State, Logged, Handled, job_of}
+use Rattle.delf_model.specs.Step.{handled_at}
+use Rattle.std.specs.Option.{option_or}
 use Rattle.delf_model.specs.Legal.{is_end_item, is_handled_end, end_handled}
 use Rattle.delf_model.specs.Closure.{items_of_job, with_objects, with_edges, edge_fits}
 use Rattle.delf_model.specs.Report.{is_of_job}
@@ -20,11 +22,11 @@ use Rattle.reach_laws.proofs.Kept.{false_of}
 -- the first value among items that pass, and among all of a list
 abbrev pub first_of : {A : Type 0} → (Item → Option A) → (Logged → Bool) → List Logged → Option A
 first_of val p [] = None
-first_of val p (x ∷ xs) = first_of_two (cond (p x) (val x.item) None) (first_of val p xs)
+first_of val p (x ∷ xs) = option_or (cond (p x) (val x.item) None) (first_of val p xs)
 
 abbrev pub first_item : {A : Type 0} → (Item → Option A) → List Item → Option A
 first_item val [] = None
-first_item val (x ∷ xs) = first_of_two (val x) (first_item val xs)
+first_item val (x ∷ xs) = option_or (val x) (first_item val xs)
 
 abbrev pub is_done : ℕ → Logged → Bool
 is_done job logged = is_of_job job logged && is_some logged.handled
@@ -34,8 +36,8 @@ first_items val job [] = refl
 first_items val job (x ∷ xs) = by_job (eqb (job_of x.item) job) (first_items val job xs)
   where
     by_job : (b : Bool) → first_item val (items_of_job job xs) ≡ first_of val (is_of_job job) xs →
-        first_item val (cond b (x.item ∷ items_of_job job xs) (items_of_job job xs)) ≡ first_of_two (cond b (val x.item) None) (first_of val (is_of_job job) xs)
-    by_job true IH = ap (first_of_two (val x.item)) IH
+        first_item val (cond b (x.item ∷ items_of_job job xs) (items_of_job job xs)) ≡ option_or (cond b (val x.item) None) (first_of val (is_of_job job) xs)
+    by_job true IH = ap (option_or (val x.item)) IH
     by_job false IH = IH
 
 -- handling an item changes no item
@@ -57,8 +59,8 @@ pub first_none : {A : Type 0} (val : Item → Option A) (p : Logged → Bool) (x
 first_none val p [] none = refl
 first_none val p (x ∷ xs) none = by_head (p x) refl (first_none val p xs (λ j y at passes. none (suc j) y at passes))
   where
-    by_head : (b : Bool) → p x ≡ b → first_of val p xs ≡ None → first_of_two (cond b (val x.item) None) (first_of val p xs) ≡ None
-    by_head true is rest = ap (λ (o : Option _). first_of_two o (first_of val p xs)) (none 0 x refl is) ∙ rest
+    by_head : (b : Bool) → p x ≡ b → first_of val p xs ≡ None → option_or (cond b (val x.item) None) (first_of val p xs) ≡ None
+    by_head true is rest = ap (λ (o : Option _). option_or o (first_of val p xs)) (none 0 x refl is) ∙ rest
     by_head false is rest = rest
 
 no_value : {A : Type 0} (b c : Bool) (o : Option A) → o ≡ None → cond b o None ≡ cond c o None
@@ -73,10 +75,10 @@ pub marked_none : {A : Type 0} (val : Item → Option A) (job : ℕ) (xs : List 
 marked_none val job [] i how l at none = refl
 marked_none val job (x ∷ xs) zero how l at none =
     let same : l ≡ x = cc in
-    ap (λ (o : Option _). first_of_two o (first_of val (is_done job) xs))
+    ap (λ (o : Option _). option_or o (first_of val (is_done job) xs))
     (no_value (is_done job (record { item = x.item; handled = Some how })) (is_done job x) (val x.item) (subst (λ (y : Logged). val y.item ≡ None) same none))
 marked_none val job (x ∷ xs) (suc i) how l at none =
-    ap (first_of_two (cond (is_done job x) (val x.item) None)) (marked_none val job xs i how l at none)
+    ap (option_or (cond (is_done job x) (val x.item) None)) (marked_none val job xs i how l at none)
 
 -- no other item of the job has a value
 abbrev pub Only : {A : Type 0} → (Item → Option A) → ℕ → List Logged → ℕ → Type 0
@@ -110,15 +112,15 @@ pub marked_some : {A : Type 0} (val : Item → Option A) (job : ℕ) (xs : List 
 marked_some val job [] i how l v at mine some only = absurd (cc at)
 marked_some val job (x ∷ xs) zero how l v at mine some only =
     let same : l ≡ x = cc in
-    ap (λ (b : Bool). first_of_two (cond b (val x.item) None) (first_of val (is_done job) xs))
+    ap (λ (b : Bool). option_or (cond b (val x.item) None) (first_of val (is_done job) xs))
     (and_from (eqb (job_of x.item) job) true (subst (λ (y : Logged). is_of_job job y ≡ true) same mine) refl) ∙
-    ap (λ (o : Option _). first_of_two o (first_of val (is_done job) xs)) (subst (λ (y : Logged). val y.item ≡ Some v) same some)
+    ap (λ (o : Option _). option_or o (first_of val (is_done job) xs)) (subst (λ (y : Logged). val y.item ≡ Some v) same some)
 marked_some val job (x ∷ xs) (suc i) how l v at mine some only =
     by_head (is_done job x) refl (marked_some val job xs i how l v at mine some (λ j y there of_job apart. only (suc j) y there of_job (λ same. apart (one_less j i same))))
   where
-    by_head : (b : Bool) → is_done job x ≡ b → first_of val (is_done job) (handled_at xs i how) ≡ Some v → first_of_two (cond b (val x.item) None) (first_of val (is_done job) (handled_at xs i how)) ≡ Some v
+    by_head : (b : Bool) → is_done job x ≡ b → first_of val (is_done job) (handled_at xs i how) ≡ Some v → option_or (cond b (val x.item) None) (first_of val (is_done job) (handled_at xs i how)) ≡ Some v
     by_head true is rest =
-        ap (λ (o : Option _). first_of_two o (first_of val (is_done job) (handled_at xs i how)))
+        ap (λ (o : Option _). option_or o (first_of val (is_done job) (handled_at xs i how)))
         (only 0 x refl (and_parts (is_of_job job x) (is_some x.handled) is).0 (no_suc i)) ∙ rest
     by_head false is rest = rest
 
@@ -127,8 +129,8 @@ pub all_done : {A : Type 0} (val : Item → Option A) (job : ℕ) (xs : List Log
     first_of val (is_done job) xs ≡ first_of val (is_of_job job) xs
 all_done val job [] all = refl
 all_done val job (x ∷ xs) all =
-    ap (λ (b : Bool). first_of_two (cond b (val x.item) None) (first_of val (is_done job) xs)) (by_job (is_of_job job x) refl) ∙
-    ap (first_of_two (cond (is_of_job job x) (val x.item) None)) (all_done val job xs (λ j y at mine. all (suc j) y at mine))
+    ap (λ (b : Bool). option_or (cond b (val x.item) None) (first_of val (is_done job) xs)) (by_job (is_of_job job x) refl) ∙
+    ap (option_or (cond (is_of_job job x) (val x.item) None)) (all_done val job xs (λ j y at mine. all (suc j) y at mine))
   where
     by_job : (b : Bool) → is_of_job job x ≡ b → (b && is_some x.handled) ≡ b
     by_job true is = all 0 x refl is
@@ -140,19 +142,19 @@ abbrev pub object_val : Graph → ℕ → Item → Option ObjectRow
 object_val g id (item.Object job row) = cond (is_some (object_at g row.id)) None (cond (eqb row.id id) (Some row) None)
 object_val g id (item.Edge job row from_birth to_birth) = None
 
-pub find-with_objects : (g : Graph) (items : List Item) (id : ℕ) → find (has_id id) (with_objects g items) ≡ first_of_two (first_item (object_val g id) items) (object_at g id)
+pub find-with_objects : (g : Graph) (items : List Item) (id : ℕ) → find (has_id id) (with_objects g items) ≡ option_or (first_item (object_val g id) items) (object_at g id)
 find-with_objects g [] id = refl
 find-with_objects g (item.Edge job row from_birth to_birth ∷ rest) id = find-with_objects g rest id
 find-with_objects g (item.Object job row ∷ rest) id = by_free (is_some (object_at g row.id)) (find-with_objects g rest id)
   where
-    by_hit : (hit : Bool) → find (has_id id) (with_objects g rest) ≡ first_of_two (first_item (object_val g id) rest) (object_at g id) →
-        cond hit (Some row) (find (has_id id) (with_objects g rest)) ≡ first_of_two (first_of_two (cond hit (Some row) None) (first_item (object_val g id) rest)) (object_at g id)
+    by_hit : (hit : Bool) → find (has_id id) (with_objects g rest) ≡ option_or (first_item (object_val g id) rest) (object_at g id) →
+        cond hit (Some row) (find (has_id id) (with_objects g rest)) ≡ option_or (option_or (cond hit (Some row) None) (first_item (object_val g id) rest)) (object_at g id)
     by_hit true IH = refl
     by_hit false IH = IH
 
-    by_free : (b : Bool) → find (has_id id) (with_objects g rest) ≡ first_of_two (first_item (object_val g id) rest) (object_at g id) →
+    by_free : (b : Bool) → find (has_id id) (with_objects g rest) ≡ option_or (first_item (object_val g id) rest) (object_at g id) →
         find (has_id id) (cond b (with_objects g rest) (put_object row (with_objects g rest))) ≡
-        first_of_two (first_of_two (cond b None (cond (eqb row.id id) (Some row) None)) (first_item (object_val g id) rest)) (object_at g id)
+        option_or (option_or (cond b None (cond (eqb row.id id) (Some row) None)) (first_item (object_val g id) rest)) (object_at g id)
     by_free true IH = IH
     by_free false IH = find-put_object row (with_objects g rest) id ∙ by_hit (eqb row.id id) IH
 
@@ -193,19 +195,19 @@ edge_val s among key (item.Object job row) = None
 edge_val s among key (item.Edge job row from_birth to_birth) =
     cond (edge_fits s among row.key from_birth to_birth) (cond (same_key row.key key) (Some row) None) None
 
-pub find-with_edges : (s : State) (among : Graph) (items : List Item) (key : EdgeKey) → find (has_key key) (with_edges s among items) ≡ first_of_two (first_item (edge_val s among key) items) (edge_at s.graph key)
+pub find-with_edges : (s : State) (among : Graph) (items : List Item) (key : EdgeKey) → find (has_key key) (with_edges s among items) ≡ option_or (first_item (edge_val s among key) items) (edge_at s.graph key)
 find-with_edges s among [] key = refl
 find-with_edges s among (item.Object job row ∷ rest) key = find-with_edges s among rest key
 find-with_edges s among (item.Edge job row from_birth to_birth ∷ rest) key = by_fit (edge_fits s among row.key from_birth to_birth) (find-with_edges s among rest key)
   where
-    by_hit : (hit : Bool) → find (has_key key) (with_edges s among rest) ≡ first_of_two (first_item (edge_val s among key) rest) (edge_at s.graph key) →
-        cond hit (Some row) (find (has_key key) (with_edges s among rest)) ≡ first_of_two (first_of_two (cond hit (Some row) None) (first_item (edge_val s among key) rest)) (edge_at s.graph key)
+    by_hit : (hit : Bool) → find (has_key key) (with_edges s among rest) ≡ option_or (first_item (edge_val s among key) rest) (edge_at s.graph key) →
+        cond hit (Some row) (find (has_key key) (with_edges s among rest)) ≡ option_or (option_or (cond hit (Some row) None) (first_item (edge_val s among key) rest)) (edge_at s.graph key)
     by_hit true IH = refl
     by_hit false IH = IH
 
-    by_fit : (b : Bool) → find (has_key key) (with_edges s among rest) ≡ first_of_two (first_item (edge_val s among key) rest) (edge_at s.graph key) →
+    by_fit : (b : Bool) → find (has_key key) (with_edges s among rest) ≡ option_or (first_item (edge_val s among key) rest) (edge_at s.graph key) →
         find (has_key key) (cond b (put_edge row (with_edges s among rest)) (with_edges s among rest)) ≡
-        first_of_two (first_of_two (cond b (cond (same_key row.key key) (Some row) None) None) (first_item (edge_val s among key) rest)) (edge_at s.graph key)
+        option_or (option_or (cond b (cond (same_key row.key key) (Some row) None) None) (first_item (edge_val s among key) rest)) (edge_at s.graph key)
     by_fit true IH = find-put_edge row (with_edges s among rest) key ∙ by_hit (same_key row.key key) IH
     by_fit false IH = IH
 
@@ -316,7 +318,7 @@ born_same g job id birth (x ∷ xs) apart handled =
     must false b one two = absurd (false≢true two)
 
     by_handled : is_of_job job x ≡ true → (row : ObjectRow) → object_val g id x.item ≡ Some row → (h : Bool) → is_some x.handled ≡ h →
-        is_born_at birth (first_of_two (cond h (Some row) None) (first_of (object_val g id) (is_done job) xs)) ≡ eqb row.birth birth
+        is_born_at birth (option_or (cond h (Some row) None) (first_of (object_val g id) (is_done job) xs)) ≡ eqb row.birth birth
     by_handled mine row is true h = refl
     by_handled mine row is false h =
         ap (is_born_at birth) (rest_none mine row is) ∙
@@ -324,14 +326,14 @@ born_same g job id birth (x ∷ xs) apart handled =
 
     by_value : is_born_at birth (first_of (object_val g id) (is_done job) xs) ≡ is_born_at birth (first_of (object_val g id) (is_of_job job) xs) →
         is_of_job job x ≡ true → (o : Option ObjectRow) → object_val g id x.item ≡ o →
-        is_born_at birth (first_of_two (cond (is_some x.handled) o None) (first_of (object_val g id) (is_done job) xs)) ≡
-        is_born_at birth (first_of_two o (first_of (object_val g id) (is_of_job job) xs))
-    by_value IH mine None is = ap (λ (o : Option ObjectRow). is_born_at birth (first_of_two o (first_of (object_val g id) (is_done job) xs))) (no_value (is_some x.handled) true None refl) ∙ IH
+        is_born_at birth (option_or (cond (is_some x.handled) o None) (first_of (object_val g id) (is_done job) xs)) ≡
+        is_born_at birth (option_or o (first_of (object_val g id) (is_of_job job) xs))
+    by_value IH mine None is = ap (λ (o : Option ObjectRow). is_born_at birth (option_or o (first_of (object_val g id) (is_done job) xs))) (no_value (is_some x.handled) true None refl) ∙ IH
     by_value IH mine (Some row) is = by_handled mine row is (is_some x.handled) refl
 
     by_job : (b : Bool) → is_of_job job x ≡ b →
         is_born_at birth (first_of (object_val g id) (is_done job) xs) ≡ is_born_at birth (first_of (object_val g id) (is_of_job job) xs) →
-        is_born_at birth (first_of_two (cond (b && is_some x.handled) (object_val g id x.item) None) (first_of (object_val g id) (is_done job) xs)) ≡
-        is_born_at birth (first_of_two (cond b (object_val g id x.item) None) (first_of (object_val g id) (is_of_job job) xs))
+        is_born_at birth (option_or (cond (b && is_some x.handled) (object_val g id x.item) None) (first_of (object_val g id) (is_done job) xs)) ≡
+        is_born_at birth (option_or (cond b (object_val g id x.item) None) (first_of (object_val g id) (is_of_job job) xs))
     by_job true mine IH = by_value IH mine (object_val g id x.item) refl
     by_job false mine IH = IH

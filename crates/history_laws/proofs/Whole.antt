@@ -2,8 +2,9 @@
 use Rattle.std.proofs.Common.{ℕ, ◌≤◌, List}
 use Rattle.delf_model.specs.declared.entry.Entry.{Entry}
 use Rattle.delf_model.specs.RuleSet.{RuleSet}
-use Rattle.delf_model.specs.State.{after}
-use Rattle.delf_model.specs.Legal.{Legal, greatest_moment}
+use Rattle.delf_model.specs.Step.{after}
+use Rattle.delf_model.specs.Legal.{Legal}
+use Rattle.delf_model.specs.Room.{greatest_moment}
 use Rattle.delf_model.specs.Sound.{Sound, FirstIsLegal}
 use Rattle.delf_model.proofs.Good.{leaves_by_owner, keeps_room}
 use Rattle.reach_laws.proofs.Reach.{done_erases_reached}

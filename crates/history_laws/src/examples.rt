@@ -5,7 +5,9 @@ ghost use Rattle.std.specs.Prelude.{◌≡◌, ◌<◌, [], ◌∷◌, ◌++◌,
 ghost use Rattle.delf_model.specs.declared.entry.What.TheVariants.{Create, Erase, Put};
 ghost use Rattle.delf_model.specs.declared.call.Cause.TheVariants as cause;
 ghost use Rattle.delf_model.specs.declared.rows.Item.TheVariants as item;
-ghost use Rattle.delf_model.specs.State.{start, step, after, owner, owned, judged};
+ghost use Rattle.delf_model.specs.State.{start, owner, owned};
+ghost use Rattle.delf_model.specs.Step.{step, after};
+ghost use Rattle.delf_model.specs.Puts.{judged};
 ghost use Rattle.delf_model.specs.Legal.{Legal, is_legal_from, is_legal};
 ghost use Rattle.delf_model.specs.Order.{first_step, is_legal_step};
 ghost use Rattle.delf_model.specs.Report.{listed_at};

@@ -9,8 +9,9 @@ pub mod unions;
 ghost use Rattle.std.specs.Prelude.{◌≤◌, ℕ, List};
 ghost use Rattle.delf_model.specs.declared.entry.Entry.{Entry};
 ghost use Rattle.delf_model.specs.RuleSet.{RuleSet};
-ghost use Rattle.delf_model.specs.State.{after};
-ghost use Rattle.delf_model.specs.Legal.{Legal, greatest_moment};
+ghost use Rattle.delf_model.specs.Step.{after};
+ghost use Rattle.delf_model.specs.Legal.{Legal};
+ghost use Rattle.delf_model.specs.Room.{greatest_moment};
 ghost use Rattle.delf_model.specs.Sound.{Sound, FirstIsLegal};
 
 /// Every legal history is sound: what leaves the graph has an owner; a done deletion erased exactly what it reached, and

@@ -4,7 +4,7 @@ ghost use Rattle.std.specs.Prelude.{List, IsTrue};
 ghost use Rattle.delf_model.specs.declared.entry.Entry.{Entry};
 ghost use Rattle.delf_model.specs.RuleSet.{RuleSet};
 ghost use Rattle.delf_model.specs.Graph.{edges_rise};
-ghost use Rattle.delf_model.specs.State.{after};
+ghost use Rattle.delf_model.specs.Step.{after};
 ghost use Rattle.delf_model.specs.Legal.{Legal};
 ghost use Rattle.delf_model.specs.Sound.{RestoreIsUnion};
 

@@ -6,8 +6,13 @@ use Rattle.delf_model.specs.declared.rows.ObjectRow.{ObjectRow}
 use Rattle.delf_model.specs.declared.entry.Entry.{Entry}
 use Rattle.delf_model.specs.declared.call.Refusal.{Refusal}
 use Rattle.delf_model.specs.Graph.{object_at, objects_rise}
-use Rattle.delf_model.specs.State.{State, Owners, owner, owned, is_job, is_pair_of, step, graph_after, items_after, jobs_after, seats_with, tag_of, start_of, root_of_start, is_restored, first_of_two}
-use Rattle.delf_model.specs.Legal.{room, owed, room_limit, is_legal, is_allowed, absent, condemned, condemned_by, is_tag, is_numbered, greatest_moment}
+use Rattle.delf_model.specs.State.{State, Owners, owner, owned, is_job, is_pair_of, is_restored}
+use Rattle.delf_model.specs.Step.{step, graph_after, items_after, jobs_after, seats_with, tag_of}
+use Rattle.delf_model.specs.Owners.{start_of, root_of_start}
+use Rattle.std.specs.Option.{option_or}
+use Rattle.delf_model.specs.Room.{room, owed, room_limit, greatest_moment}
+use Rattle.delf_model.specs.Legal.{is_legal, is_allowed, is_tag, is_numbered}
+use Rattle.delf_model.specs.Reply.{absent, condemned, condemned_by}
 use Rattle.job_table.specs.Table.{Table, IsTableOf, Keeps, starts_rise, id_of_owner, id_of, owner_among, owned_among, is_of_owner}
 use Rattle.job_table.proofs.Lookups.{both}
 use Rattle.job_table.proofs.Passing.{owned_is, one_if}
@@ -44,7 +49,7 @@ allowed s e h =
     (both (nat_le s.moment e.moment && nat_le e.moment greatest_moment && is_tag s (tag_of e.what) && is_numbered s.rules e.what)
     (is_allowed s e.moment e.what) h).1
 
-pub none_of_two : (x r : Option Refusal) → is_none (first_of_two x r) ≡ true → (x ≡ None) × (is_none r ≡ true)
+pub none_of_two : (x r : Option Refusal) → is_none (option_or x r) ≡ true → (x ≡ None) × (is_none r ≡ true)
 none_of_two None r h = (refl, h)
 none_of_two (Some x) r h = absurd (cc h)
 

@@ -10,8 +10,13 @@ use Rattle.delf_model.specs.declared.call.Refusal.TheVariants.{NoJob as no_job_t
 use Rattle.delf_model.specs.declared.call.Status.TheVariants.{Pending, Done, Restoring, Restored, Purged}
 use Rattle.delf_model.specs.declared.entry.Tag.{Tag}
 use Rattle.delf_model.specs.declared.entry.What.TheVariants.{Restore}
-use Rattle.delf_model.specs.State.{State, JobRow, Logged, step, owned, left, job_row, find_job, is_job, is_restored_row, is_object_item, first_of_two}
-use Rattle.delf_model.specs.Legal.{is_allowed, is_named_so, pending, restored_by, restored_before, window_over, window_end, window_passed, full, used, owed, room, room_limit, may_purge, last_erasure_or_zero, is_handled_end, end_handled}
+use Rattle.delf_model.specs.State.{State, JobRow, Logged, owned, left, job_row, find_job, is_job, is_restored_row, is_object_item}
+use Rattle.delf_model.specs.Step.{step}
+use Rattle.std.specs.Option.{option_or}
+use Rattle.delf_model.specs.Legal.{is_allowed, is_named_so, window_passed, may_purge, is_handled_end, end_handled}
+use Rattle.delf_model.specs.Reply.{pending, restored_by, restored_before, window_over, window_end, full}
+use Rattle.delf_model.specs.Room.{used, owed, room, room_limit}
+use Rattle.delf_model.specs.State.{last_erasure_or_zero}
 use Rattle.delf_model.specs.Report.{status_of_row, erased_count, cut_count, put_count, listed_count}
 use Rattle.job_table.specs.declared.items.Kept.{Kept}
 use Rattle.job_table.specs.Parts.{ItemPart, logged_of}
@@ -78,7 +83,7 @@ purge_is s moment job row found =
 
 all_of : (a b p w g : Bool) (rc : Option ℕ) (x y z : Refusal) →
     (a && b && is_none rc && not p && not w && not g) ≡
-    (a && is_none (first_of_two (cond b None (Some x)) (first_of_two (restored_by rc) (first_of_two (cond (p || w) (Some y) None) (first_of_two (cond g (Some z) None) None)))))
+    (a && is_none (option_or (cond b None (Some x)) (option_or (restored_by rc) (option_or (cond (p || w) (Some y) None) (option_or (cond g (Some z) None) None)))))
 all_of false b p w g rc x y z = refl
 all_of true false p w g rc x y z = refl
 all_of true true p w g (Some r) x y z = refl
@@ -99,7 +104,7 @@ room_counts s moment job tag row keeps found none =
 
 allowed_by : (s : State) (moment job : ℕ) (tag : Tag) (row : JobRow) → Keeps s → job_row s.jobs job ≡ Some row → (o : Option ℕ) → row.restored ≡ o →
     (is_job job (find_job s.jobs row.name) && nat_eq (owned s job) 0 && is_none o && not row.purged && not (window_passed s moment row) && nat_le (s.len + 1 + (owed s + sum_by (weight_of job) s.items)) room_limit) ≡
-    (is_job job (find_job s.jobs row.name) && is_none (first_of_two (pending s job) (first_of_two (restored_by o) (first_of_two (window_over s moment (Some row)) (first_of_two (full s moment (Restore tag job)) None)))))
+    (is_job job (find_job s.jobs row.name) && is_none (option_or (pending s job) (option_or (restored_by o) (option_or (window_over s moment (Some row)) (option_or (full s moment (Restore tag job)) None)))))
 allowed_by s moment job tag row keeps found None is =
     ap (λ (f : Bool). is_job job (find_job s.jobs row.name) && nat_eq (owned s job) 0 && true && not row.purged && not (window_passed s moment row) && f)
     (room_counts s moment job tag row keeps found is)
@@ -108,10 +113,10 @@ allowed_by s moment job tag row keeps found None is =
     (still_pending (owned s job)) (WindowOver (window_end s row)) (Full (used s) (owed s))
 allowed_by s moment job tag row keeps found (Some at) is =
     stops (is_job job (find_job s.jobs row.name)) (nat_eq (owned s job) 0) (not row.purged) (not (window_passed s moment row)) _ (still_pending (owned s job))
-    (first_of_two (window_over s moment (Some row)) (first_of_two (full s moment (Restore tag job)) None))
+    (option_or (window_over s moment (Some row)) (option_or (full s moment (Restore tag job)) None))
   where
     stops : (a b p w f : Bool) (x : Refusal) (rest : Option Refusal) →
-        (a && b && false && p && w && f) ≡ (a && is_none (first_of_two (cond b None (Some x)) (first_of_two (restored_by (Some at)) rest)))
+        (a && b && false && p && w && f) ≡ (a && is_none (option_or (cond b None (Some x)) (option_or (restored_by (Some at)) rest)))
     stops false b p w f x rest = refl
     stops true false p w f x rest = refl
     stops true true p w f x rest = refl
@@ -122,4 +127,4 @@ restore_is s moment job tag row keeps found =
     ap (λ (j : ℕ). is_job j (find_job s.jobs row.name) && nat_eq (owned s j) 0 && is_none row.restored && not row.purged && not (window_passed s moment row) && nat_le (s.len + 1 + (owed s + sum_by (weight_of j) s.items)) room_limit)
     (job_row_is job row s.jobs found)
     ∙ allowed_by s moment job tag row keeps found row.restored refl
-    ∙ sym (ap (λ (o : Option JobRow). is_named_so s job o && is_none (first_of_two (cond (is_some o) None (Some no_job_there)) (first_of_two (pending s job) (first_of_two (restored_before o) (first_of_two (window_over s moment o) (first_of_two (full s moment (Restore tag job)) None)))))) found)
+    ∙ sym (ap (λ (o : Option JobRow). is_named_so s job o && is_none (option_or (cond (is_some o) None (Some no_job_there)) (option_or (pending s job) (option_or (restored_before o) (option_or (window_over s moment o) (option_or (full s moment (Restore tag job)) None)))))) found)

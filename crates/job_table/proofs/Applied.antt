@@ -15,7 +15,10 @@ use Rattle.delf_model.specs.declared.ids.JobName.TheVariants.{Named, Expiry}
 use Rattle.delf_model.specs.RuleSet.{RuleSet}
 use Rattle.delf_model.specs.Graph.{Graph, TakesEdge, changed, object_at, edge_at, edge_stands, objects_rise, edges_rise}
 use Rattle.delf_model.specs.Store.{EndsStand}
-use Rattle.delf_model.specs.State.{State, step, owner, judged, birth_of, condemns, is_job}
+use Rattle.delf_model.specs.State.{State, owner, is_job}
+use Rattle.delf_model.specs.Step.{step, birth_of}
+use Rattle.delf_model.specs.Puts.{judged}
+use Rattle.delf_model.specs.Owners.{condemns}
 use Rattle.delf_model.specs.Legal.{is_legal}
 use Rattle.job_table.specs.Table.{Table, IsTableOf, IsGraphOf, owner_among, owned_among, item_at, item_of_logged}
 use Rattle.job_table.specs.Notes.{noted, noted_start, noted_restore, noted_purge, weight_of, noted_item, noted_put, takes_last, condemns_before, item_weight, put_weight}

@@ -9,8 +9,12 @@ use Rattle.delf_model.specs.declared.ids.JobName.{JobName}
 use Rattle.delf_model.specs.declared.ids.JobName.TheVariants.{Named, Expiry}
 use Rattle.delf_model.specs.RuleSet.{is_refcount}
 use Rattle.delf_model.specs.Graph.{changed, TakesEdge, object_at, edge_at, edge_stands, objects_rise, has_refs}
-use Rattle.delf_model.specs.State.{State, JobRow, Owners, owner, owned, owners_after, step, new_job, is_restored, job_row, jobs_after, items_after, seats_with, tag_of, key_of, root_of_start, started_job, restored_at, purged_if, starts_at, left}
-use Rattle.delf_model.specs.Legal.{room, owed, room_limit, owed_for_edge, owed_for_job, owed_for_item, is_legal, absent, condemned, is_due_row, full, no_edge, no_job, pending, restored_before, window_over, is_named_so, may_purge, window_passed}
+use Rattle.delf_model.specs.State.{State, JobRow, Owners, owner, owned, is_restored, job_row, starts_at, left}
+use Rattle.delf_model.specs.Owners.{owners_after, key_of, root_of_start}
+use Rattle.delf_model.specs.Step.{step, new_job, jobs_after, items_after, seats_with, tag_of, started_job, row_restored_at, purged_if}
+use Rattle.delf_model.specs.Room.{room, owed, room_limit, owed_for_edge, owed_for_job, owed_for_item}
+use Rattle.delf_model.specs.Legal.{is_legal, is_due_row, is_named_so, may_purge, window_passed}
+use Rattle.delf_model.specs.Reply.{absent, condemned, full, no_edge, no_job, pending, restored_before, window_over}
 use Rattle.job_table.specs.Table.{Table, IsTableOf, Keeps, starts_rise, owner_among, owned_among, id_of_owner, id_of}
 use Rattle.job_table.specs.Parts.{changed_first}
 use Rattle.job_table.specs.Notes.{noted, noted_start, noted_restore, noted_purge, weight_of}
@@ -248,14 +252,14 @@ restore_facts s m job tag l =
     let r = job_there s job a1.0 in
     (r.0, r.1, none_pending s job a2.0, not_restored (job_row s.jobs job) a3.0, room_left s m (Restore tag job) a5.0)
 
-pub restored_start : (job position : ℕ) (row : JobRow) → (restored_at job position row).start ≡ row.start
+pub restored_start : (job position : ℕ) (row : JobRow) → (row_restored_at job position row).start ≡ row.start
 restored_start job position row = go (nat_eq row.start job)
   where
     go : (b : Bool) → (cond b (record row { restored = Some position }) row).start ≡ row.start
     go true = refl
     go false = refl
 
-restored_purged : (job position : ℕ) (row : JobRow) → (restored_at job position row).purged ≡ row.purged
+restored_purged : (job position : ℕ) (row : JobRow) → (row_restored_at job position row).purged ≡ row.purged
 restored_purged job position row = go (nat_eq row.start job)
   where
     go : (b : Bool) → (cond b (record row { restored = Some position }) row).purged ≡ row.purged
@@ -272,8 +276,8 @@ restore_owed_of s m job tag row k found not_yet =
     omega (
       arith,
       (restore_same s k).weight owes,
-      owed_jobs-same (restored_at job s.len) s.jobs (restored_purged job s.len),
-      owed_items-restored s.jobs (map (restored_at job s.len) s.jobs) job s.items (λ other. is_restored-restored job s.len other row s.jobs found) not_yet,
+      owed_jobs-same (row_restored_at job s.len) s.jobs (restored_purged job s.len),
+      owed_items-restored s.jobs (map (row_restored_at job s.len) s.jobs) job s.items (λ other. is_restored-restored job s.len other row s.jobs found) not_yet,
     )
 
 pub restore_owed : (s : State) (m job : ℕ) (tag : Tag) → Keeps s → is_legal s (record { moment = m; what = Restore tag job }) ≡ true →
@@ -292,10 +296,10 @@ restore_step s m job tag t o h l =
     (ids_after s.rules s.graph s.graph None s.len s.owners s.graph.objects)
     o.objects (noted_restore t m (Some tag.seat) job (t.owed + sum_by (weight_of job) t.items)) refl refl refl
     (omega (arith, h.owed, restore_owed s m job tag h.keeps l, weights)) h.items
-    (ap (λ (n : ℕ). changed_first (starts_at job) (restored_at job n) t.jobs) h.len ∙ ap (changed_first (starts_at job) (restored_at job s.len)) h.jobs
-    ∙ changed_is_map (restored_at job s.len) job 0 s.len s.jobs (restored_other job s.len) h.keeps.starts)
+    (ap (λ (n : ℕ). changed_first (starts_at job) (row_restored_at job n) t.jobs) h.len ∙ ap (changed_first (starts_at job) (row_restored_at job s.len)) h.jobs
+    ∙ changed_is_map (row_restored_at job s.len) job 0 s.len s.jobs (restored_other job s.len) h.keeps.starts)
     (ap (λ (l : List ℕ). l ++ tag.seat ∷ []) h.seats) facts.4
-    (starts_map (restored_at job s.len) 0 (s.len + 1) s.jobs (restored_start job s.len) (starts_wider 0 s.len (s.len + 1) s.jobs (omega arith) h.keeps.starts))
+    (starts_map (row_restored_at job s.len) 0 (s.len + 1) s.jobs (restored_start job s.len) (starts_wider 0 s.len (s.len + 1) s.jobs (omega arith) h.keeps.starts))
     (λ other r. idle other facts.2 (h.keeps.idle other) (nat_eq other job) refl (is_restored s.jobs other) refl (sym (is_restored-restored job s.len other facts.0 s.jobs facts.1) ∙ r))
   where
     idle : (other : ℕ) → owned s job ≡ 0 → (is_restored s.jobs other ≡ true → owned s other ≡ 0) → (b : Bool) → nat_eq other job ≡ b →

@@ -12,8 +12,12 @@ use Rattle.delf_model.specs.declared.entry.What.TheVariants.{Create, Update, Lin
 use Rattle.delf_model.specs.declared.ids.JobName.{JobName}
 use Rattle.delf_model.specs.declared.call.Refusal.{Refusal}
 use Rattle.delf_model.specs.Graph.{changed, PutsEdge, PutsObject, RewritesObject, object_at, edge_at, edge_stands, put_object, rewritten}
-use Rattle.delf_model.specs.State.{State, JobRow, owned, owners_after, step, new_job, is_restored, is_restored_row, job_row, jobs_after, new_object, new_edge, key_of}
-use Rattle.delf_model.specs.Legal.{room, owed, room_limit, owed_for_edge, owed_for_job, owed_for_item, is_legal, too_long, absent, condemned, name_taken, name_taken_by, edge_taken, edge_taken_by, full, wrong_source, wrong_target, no_edge, no_job, pending, restored_before, restored_by}
+use Rattle.delf_model.specs.State.{State, JobRow, owned, is_restored, is_restored_row, job_row}
+use Rattle.delf_model.specs.Owners.{owners_after, key_of}
+use Rattle.delf_model.specs.Step.{step, new_job, jobs_after, new_object, new_edge}
+use Rattle.delf_model.specs.Room.{room, owed, room_limit, owed_for_edge, owed_for_job, owed_for_item}
+use Rattle.delf_model.specs.Legal.{is_legal}
+use Rattle.delf_model.specs.Reply.{too_long, absent, condemned, name_taken, name_taken_by, edge_taken, edge_taken_by, full, wrong_source, wrong_target, no_edge, no_job, pending, restored_before, restored_by}
 use Rattle.job_table.specs.Table.{Table, IsTableOf, Keeps, starts_rise, owner_among, owned_among, id_of_owner, id_of}
 use Rattle.job_table.specs.Notes.{noted, noted_start, with_seat}
 use Rattle.job_table.proofs.Lookups.{found_after_put}

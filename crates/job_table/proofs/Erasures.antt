@@ -7,8 +7,11 @@ use Rattle.delf_model.specs.declared.rows.Item.{Item}
 use Rattle.delf_model.specs.declared.rows.Item.TheVariants as item
 use Rattle.delf_model.specs.declared.entry.What.TheVariants.{Cut, Erase}
 use Rattle.delf_model.specs.Graph.{changed, TakesEdge, TakesObject, object_at, edge_at, edge_stands, has_id, is_touched, is_other_object}
-use Rattle.delf_model.specs.State.{State, JobRow, Logged, owner, owned, owner_in, step, is_restored, jobs_after, items_after, key_of, starts_at, erased_at, is_job, is_owned_by, unhandled, birth_of, edge_item, object_item, condemns, job_of}
-use Rattle.delf_model.specs.Legal.{owed, owed_for_edge, owed_for_job, owed_for_item, is_legal}
+use Rattle.delf_model.specs.State.{State, JobRow, Logged, owner, owned, owner_in, is_restored, starts_at, is_job, is_owned_by, job_of}
+use Rattle.delf_model.specs.Step.{step, jobs_after, items_after, erased_at, unhandled, birth_of, edge_item, object_item}
+use Rattle.delf_model.specs.Owners.{key_of, condemns}
+use Rattle.delf_model.specs.Room.{owed, owed_for_edge, owed_for_job, owed_for_item}
+use Rattle.delf_model.specs.Legal.{is_legal}
 use Rattle.job_table.specs.Table.{Table, IsTableOf, Keeps, starts_rise, owner_among, owned_among}
 use Rattle.job_table.specs.Parts.{changed_first}
 use Rattle.job_table.specs.Notes.{noted_item}

@@ -3,8 +3,9 @@ use Rattle.std.specs.Prelude.{nat_eq, nat_lt, find, option_map, slice_get, count
 use Rattle.std.specs.List.{position}
 use Rattle.std.proofs.lemmas.List.Quantifiers.{position-Some}
 use Rattle.delf_model.specs.declared.entry.What.TheVariants.{Cut, Erase, Purge}
-use Rattle.delf_model.specs.State.{State, JobRow, Logged, owned, job_row, is_restored, is_restored_row, left, is_open_of, job_of, first_of_two}
-use Rattle.delf_model.specs.Legal.{last_erasure_or_zero}
+use Rattle.delf_model.specs.State.{State, JobRow, Logged, owned, job_row, is_restored, is_restored_row, left, is_open_of, job_of}
+use Rattle.std.specs.Option.{option_or}
+use Rattle.delf_model.specs.State.{last_erasure_or_zero}
 use Rattle.delf_model.specs.Order.{purges, last_place, first_purge, purge_of, cut_or_erase}
 use Rattle.job_table.specs.declared.jobs.Row.{Row}
 use Rattle.job_table.specs.Table.{Table, IsTableOf, Keeps, owned_among}
@@ -75,8 +76,8 @@ pub last_open : (s : State) (job i : ℕ) (xs : List Logged) → is_restored s.j
     last_place (is_open_of job s.jobs) i xs ≡ last_place (is_unhandled_of job) i xs
 last_open s job i [] r = refl
 last_open s job i (x ∷ xs) r =
-    ap (λ (o : Option ℕ). first_of_two o (cond (is_open_of job s.jobs x) (Some i) None)) (last_open s job (i + 1) xs r)
-    ∙ ap (λ (b : Bool). first_of_two (last_place (is_unhandled_of job) (i + 1) xs) (cond b (Some i) None))
+    ap (λ (o : Option ℕ). option_or o (cond (is_open_of job s.jobs x) (Some i) None)) (last_open s job (i + 1) xs r)
+    ∙ ap (λ (b : Bool). option_or (last_place (is_unhandled_of job) (i + 1) xs) (cond b (Some i) None))
     (same (nat_eq (job_of x.item) job) (is_none x.handled) (is_restored s.jobs (job_of x.item)) (λ h. ap (is_restored s.jobs) (eqb_is (job_of x.item) job h) ∙ r))
   where
     same : (j h o : Bool) → (j ≡ true → o ≡ true) → (j && (h && o)) ≡ (j && h)
@@ -89,11 +90,11 @@ pub last_push : (p : Logged → Bool) (i : ℕ) (xs : List Logged) (y : Logged) 
 last_push p i [] y = let same : i ≡ i + 0 = omega arith in ap (λ (n : ℕ). cond (p y) (Some n) None) same
 last_push p i (x ∷ xs) y =
     let same : (i + 1) + length xs ≡ i + length (x ∷ xs) = omega arith in
-    ap (λ (o : Option ℕ). first_of_two o (cond (p x) (Some i) None)) (last_push p (i + 1) xs y ∙ ap (λ (n : ℕ). cond (p y) (Some n) (last_place p (i + 1) xs)) same)
+    ap (λ (o : Option ℕ). option_or o (cond (p x) (Some i) None)) (last_push p (i + 1) xs y ∙ ap (λ (n : ℕ). cond (p y) (Some n) (last_place p (i + 1) xs)) same)
     ∙ go (p y)
   where
-    go : (b : Bool) → first_of_two (cond b (Some (i + length (x ∷ xs))) (last_place p (i + 1) xs)) (cond (p x) (Some i) None) ≡
-        cond b (Some (i + length (x ∷ xs))) (first_of_two (last_place p (i + 1) xs) (cond (p x) (Some i) None))
+    go : (b : Bool) → option_or (cond b (Some (i + length (x ∷ xs))) (last_place p (i + 1) xs)) (cond (p x) (Some i) None) ≡
+        cond b (Some (i + length (x ∷ xs))) (option_or (last_place p (i + 1) xs) (cond (p x) (Some i) None))
     go true = refl
     go false = refl
 

@@ -5,7 +5,9 @@ use Rattle.delf_model.specs.declared.rows.EdgeRow.{EdgeRow}
 use Rattle.delf_model.specs.declared.entry.What.{What}
 use Rattle.delf_model.specs.declared.entry.What.TheVariants.{Cut, Erase}
 use Rattle.delf_model.specs.Graph.{Graph, has_key, edge_at, edge_stands, same_key, touches_row, is_touched, out_edges, in_edges, leaves_from, leads_to}
-use Rattle.delf_model.specs.State.{State, owner, is_owned_by, is_job, key_of, first_of_two}
+use Rattle.delf_model.specs.State.{State, owner, is_owned_by, is_job}
+use Rattle.delf_model.specs.Owners.{key_of}
+use Rattle.std.specs.Option.{option_or}
 use Rattle.delf_model.specs.Legal.{is_allowed}
 use Rattle.delf_model.specs.Order.{is_step, is_held}
 use Rattle.job_table.specs.Table.{owner_among, is_of_id, job_of_pair}
@@ -204,7 +206,7 @@ mapped_none : (job : ℕ) (o : Option EdgeRow) → option_map (cut_of job) o ≡
 mapped_none job None h = refl
 mapped_none job (Some row) h = absurd (cc h)
 
-both_none : {A : Type 0} (a b : Option A) → first_of_two a b ≡ None → (a ≡ None) × (b ≡ None)
+both_none : {A : Type 0} (a b : Option A) → option_or a b ≡ None → (a ≡ None) × (b ≡ None)
 both_none None b h = (refl, h)
 both_none (Some x) b h = absurd (cc h)
 
@@ -268,13 +270,13 @@ module _ (s : State) (held : List What) where
   step_open pair w o f = by_out (find (is_free_edge held pair.1) (out_edges s.graph pair.0)) refl f
     where
       by_in : (q : Option EdgeRow) → find (is_free_edge held pair.1) (in_edges s.graph pair.0) ≡ q →
-          first_of_two (option_map (cut_of pair.1) q) (free_erase s.graph held pair.1 pair.0) ≡ Some w → IsOpenStep s held w
+          option_or (option_map (cut_of pair.1) q) (free_erase s.graph held pair.1 pair.0) ≡ Some w → IsOpenStep s held w
       by_in (Some row) at e = let same : cut_of pair.1 row ≡ w = cc e in subst (IsOpenStep s held) same (in_step pair.1 pair.0 row o at)
       by_in None at e = erase_step pair.1 pair.0 w o e
 
       by_out : (q : Option EdgeRow) → find (is_free_edge held pair.1) (out_edges s.graph pair.0) ≡ q →
-          first_of_two (option_map (cut_of pair.1) q)
-          (first_of_two (free_cut held pair.1 (in_edges s.graph pair.0)) (free_erase s.graph held pair.1 pair.0)) ≡ Some w → IsOpenStep s held w
+          option_or (option_map (cut_of pair.1) q)
+          (option_or (free_cut held pair.1 (in_edges s.graph pair.0)) (free_erase s.graph held pair.1 pair.0)) ≡ Some w → IsOpenStep s held w
       by_out (Some row) at e = let same : cut_of pair.1 row ≡ w = cc e in subst (IsOpenStep s held) same (out_step pair.1 pair.0 row o at)
       by_out None at e = by_in (find (is_free_edge held pair.1) (in_edges s.graph pair.0)) refl e
 

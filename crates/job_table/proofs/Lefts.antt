@@ -5,7 +5,7 @@ use Rattle.std.proofs.lemmas.Grind.{common_steps}
 use Rattle.std.specs.Prelude.{option_and_then}
 use Rattle.std.specs.Option.{unwrap_or}
 use Rattle.delf_model.specs.declared.call.JobLine.{JobLine}
-use Rattle.delf_model.specs.Legal.{last_erasure_or_zero}
+use Rattle.delf_model.specs.State.{last_erasure_or_zero}
 use Rattle.delf_model.specs.Report.{erased_count, cut_count, status_of_row, job_line, status, status_or_none, line_of_row, job_at}
 use Rattle.delf_model.specs.declared.ids.JobName.{JobName}
 use Rattle.job_table.proofs.Rows.{job_row_is}

@@ -6,7 +6,9 @@ use Rattle.delf_model.specs.declared.rows.ObjectRow.{ObjectRow}
 use Rattle.delf_model.specs.declared.rows.EdgeKey.{EdgeKey}
 use Rattle.delf_model.specs.RuleSet.{RuleSet}
 use Rattle.delf_model.specs.Graph.{Graph, TakesEdge, TakesObject, PutsObject, RewritesObject, changed, object_at, edge_stands, objects_rise, put_object, is_other_object, rewritten}
-use Rattle.delf_model.specs.State.{Owners, owner_in, owners_after, first_of_two, first_passed, condemns}
+use Rattle.delf_model.specs.State.{Owners, owner_in}
+use Rattle.delf_model.specs.Owners.{owners_after, first_passed, condemns}
+use Rattle.std.specs.Option.{option_or}
 use Rattle.job_table.specs.Table.{id_of_owner, id_of, is_of_id, job_of_pair, owner_among}
 use Rattle.job_table.proofs.Passing.{no_owner, passed_by}
 use Rattle.job_table.proofs.Steps.{ObjectsStay, EdgesStay, stay_same, owner_same, owner_root, owner_root_other, owner_cut, owner_unpassed, owner_lost, owner_staying, eqb_self, eqb_is, first_with_none}
@@ -158,11 +160,11 @@ cut_gained rules g key job p owners row ids rise e f n from c = record {
 }
   where
     law : (id : ℕ) → owner_in (owners_after rules g (changed g (TakesEdge key)) None p owners) id ≡
-        first_of_two (owner_in owners id) (passed_by rules (changed g (TakesEdge key)) owners id key)
+        option_or (owner_in owners id) (passed_by rules (changed g (TakesEdge key)) owners id key)
     law = owner_cut rules g p owners key ids e (ap is_some f)
 
     at : owner_in (owners_after rules g (changed g (TakesEdge key)) None p owners) key.to ≡ Some job
-    at = law key.to ∙ ap (λ (o : Option ℕ). first_of_two o (passed_by rules (changed g (TakesEdge key)) owners key.to key)) n
+    at = law key.to ∙ ap (λ (o : Option ℕ). option_or o (passed_by rules (changed g (TakesEdge key)) owners key.to key)) n
         ∙ ap (λ (b : Bool). cond (b && condemns rules (changed g (TakesEdge key)) key) (owner_in owners key.from) None) (eqb_self key.to)
         ∙ ap (λ (b : Bool). cond b (owner_in owners key.from) None) c ∙ from
 
@@ -172,7 +174,7 @@ cut_gained rules g key job p owners row ids rise e f n from c = record {
 
     rest : (id : ℕ) → (id ≡ key.to → ⊥) → owner_in (owners_after rules g (changed g (TakesEdge key)) None p owners) id ≡ owner_in owners id
     rest id ne =
-        law id ∙ ap (first_of_two (owner_in owners id)) (off (nat_eq key.to id) (condemns rules (changed g (TakesEdge key)) key) (owner_in owners key.from) (λ h. ne (sym (eqb_is key.to id h))))
+        law id ∙ ap (option_or (owner_in owners id)) (off (nat_eq key.to id) (condemns rules (changed g (TakesEdge key)) key) (owner_in owners key.from) (λ h. ne (sym (eqb_is key.to id h))))
         ∙ first_with_none (owner_in owners id)
 
 -- a cut that passes nothing on
@@ -185,13 +187,13 @@ cut_same rules g key p owners ids e t n = record {
   weight = λ h. total_same h owners (owners_after rules g (changed g (TakesEdge key)) None p owners) g.objects same;
 }
   where
-    keep : (o : Option ℕ) (d : Bool) (v : Option ℕ) → (is_none o && d) ≡ false → first_of_two o (cond d v None) ≡ o
+    keep : (o : Option ℕ) (d : Bool) (v : Option ℕ) → (is_none o && d) ≡ false → option_or o (cond d v None) ≡ o
     keep None true v h = absurd (cc h)
     keep None false v h = refl
     keep (Some j) d v h = refl
 
     pass : (b : Bool) (id : ℕ) → nat_eq key.to id ≡ b →
-        first_of_two (owner_in owners id) (cond (b && condemns rules (changed g (TakesEdge key)) key) (owner_in owners key.from) None) ≡ owner_in owners id
+        option_or (owner_in owners id) (cond (b && condemns rules (changed g (TakesEdge key)) key) (owner_in owners key.from) None) ≡ owner_in owners id
     pass true id h =
         keep (owner_in owners id) (condemns rules (changed g (TakesEdge key)) key) (owner_in owners key.from)
         (ap (λ (k : ℕ). is_none (owner_in owners k) && condemns rules (changed g (TakesEdge key)) key) (sym (eqb_is key.to id h)) ∙ n)

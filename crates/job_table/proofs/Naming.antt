@@ -3,7 +3,8 @@ use Rattle.std.specs.List.{position}
 use Rattle.std.proofs.lemmas.List.Quantifiers.{position-Some}
 use Rattle.delf_model.specs.declared.ids.JobName.{JobName}
 use Rattle.delf_model.specs.declared.ids.JobName.TheVariants.{Named, Expiry}
-use Rattle.delf_model.specs.State.{JobRow, same_name, find_job, last_of, named_start, new_job}
+use Rattle.delf_model.specs.State.{JobRow, same_name, find_job, last_of, named_start}
+use Rattle.delf_model.specs.Step.{new_job}
 use Rattle.job_table.specs.declared.jobs.Row.{Row}
 use Rattle.job_table.specs.JobsFit.{JobsFit}
 use Rattle.job_table.specs.Table.{starts_rise}

@@ -8,8 +8,10 @@ use Rattle.delf_model.specs.declared.rows.EdgeRow.{EdgeRow}
 use Rattle.delf_model.specs.declared.entry.What.{What}
 use Rattle.delf_model.specs.declared.entry.What.TheVariants as what
 use Rattle.delf_model.specs.Graph.{Graph, has_id, object_at, out_edges, in_edges, objects_rise}
-use Rattle.delf_model.specs.State.{State, Logged, JobRow, owner, is_pair_of, job_row, starts_at, job_of, is_restored_row, is_open_of, left, first_of_two}
-use Rattle.delf_model.specs.Legal.{is_legal, is_allowed, greatest_moment, is_due_row, may_put, may_purge, may_expire}
+use Rattle.delf_model.specs.State.{State, Logged, JobRow, owner, is_pair_of, job_row, starts_at, job_of, is_restored_row, is_open_of, left}
+use Rattle.std.specs.Option.{option_or}
+use Rattle.delf_model.specs.Legal.{is_legal, is_allowed, is_due_row, may_put, may_purge, may_expire}
+use Rattle.delf_model.specs.Room.{greatest_moment}
 use Rattle.delf_model.specs.Order.{is_step, is_legal_step, is_held, is_restoring, is_oldest_restoring, is_no_older, last_place, put_of, put_of_job, first_put, owns_some, first_erasure, erasure_of_pair, erasure_of_job, cut_or_erase, expires, expiry_of, first_expiry, purges, purge_of, first_purge, first_step}
 use Rattle.delf_model.proofs.Places.{may_put_of}
 use Rattle.job_table.specs.declared.next.Next.{Next}
@@ -69,7 +71,7 @@ legal_step s moment (what.Purge job) t is a = timed s moment _ t a
 
 -- which steps are the first ones
 
-first_cases : {A : Type 0} (a b : Option A) (x : A) → first_of_two a b ≡ Some x → (a ≡ Some x) ⊎ ((a ≡ None) × (b ≡ Some x))
+first_cases : {A : Type 0} (a b : Option A) (x : A) → option_or a b ≡ Some x → (a ≡ Some x) ⊎ ((a ≡ None) × (b ≡ Some x))
 first_cases None b x h = inr (refl, h)
 first_cases (Some y) b x h = inl h
 
@@ -264,7 +266,7 @@ none_counted p (x ∷ xs) n h = go (last_place p (n + 1) xs) refl h (none_counte
     here true e = absurd (cc e)
     here false e = refl
 
-    go : (o : Option ℕ) → last_place p (n + 1) xs ≡ o → first_of_two o (cond (p x) (Some n) None) ≡ None → (last_place p (n + 1) xs ≡ None → count_by p xs ≡ 0) → count_by p (x ∷ xs) ≡ 0
+    go : (o : Option ℕ) → last_place p (n + 1) xs ≡ o → option_or o (cond (p x) (Some n) None) ≡ None → (last_place p (n + 1) xs ≡ None → count_by p xs ≡ 0) → count_by p (x ∷ xs) ≡ 0
     go (Some i) at e more = absurd (cc e)
     go None at e more = omega (arith, sum_by-cons (λ y. cond (p y) 1 0) x xs, more at, here (p x) e)
 

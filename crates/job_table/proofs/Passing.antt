@@ -9,7 +9,9 @@ use Rattle.delf_model.specs.declared.rows.EdgeKey.{EdgeKey}
 use Rattle.delf_model.specs.declared.rows.EdgeRow.{EdgeRow}
 use Rattle.delf_model.specs.RuleSet.{RuleSet}
 use Rattle.delf_model.specs.Graph.{Graph, has_id, has_key, same_key, edge_stands, objects_rise}
-use Rattle.delf_model.specs.State.{Owners, owns_of, owner_in, owner_of_pair, is_job, is_pair_of, next_owner, owned_row, first_of_two, first_passed, condemns}
+use Rattle.delf_model.specs.State.{Owners, owns_of, owner_in, owner_of_pair, is_job, is_pair_of}
+use Rattle.delf_model.specs.Owners.{next_owner, owned_row, first_passed, condemns}
+use Rattle.std.specs.Option.{option_or}
 use Rattle.job_table.specs.Table.{id_of_owner, id_of}
 use Rattle.job_table.proofs.Lookups.{same_key_is, both}
 use Rattle.job_table.proofs.Sums.{sum_by-same_after, rises_tail}
@@ -86,12 +88,12 @@ first_passed_none rules now owners id (x ∷ xs) h =
   where
     go : (a b d : Bool) →
         (list_all (λ row. edge_stands now row.key) xs ≡ true → first_passed rules now owners id xs ≡ None) → (b && list_all (λ row. edge_stands now row.key) xs) ≡ true →
-        first_of_two (cond (a && not b && d) (owner_in owners x.key.from) None) (first_passed rules now owners id xs) ≡ None
+        option_or (cond (a && not b && d) (owner_in owners x.key.from) None) (first_passed rules now owners id xs) ≡ None
     go a false d more h = absurd (cc h)
     go true true d more h = more h
     go false true d more h = more h
 
-pub first_of_same : {A : Type 0} (v w : Option A) → (w ≡ v) ⊎ (w ≡ None) → first_of_two v w ≡ v
+pub first_of_same : {A : Type 0} (v w : Option A) → (w ≡ v) ⊎ (w ≡ None) → option_or v w ≡ v
 first_of_same (Some a) w h = refl
 first_of_same None w (inl e) = e
 first_of_same None w (inr e) = e
@@ -119,10 +121,10 @@ choice true v w e = inl e
 choice false v w e = inr e
 
 one_step : (b s t : Bool) (v p w : Option ℕ) → (b ≡ true → p ≡ v) → (s ≡ true → p ≡ None) → (b || s) ≡ true → w ≡ cond t v None →
-    first_of_two p w ≡ cond (b || t) v None
+    option_or p w ≡ cond (b || t) v None
 one_step true s t v p w f g h e =
-    ap (λ (o : Option ℕ). first_of_two o w) (f refl) ∙ first_of_same v w (choice t v w e)
-one_step false true t v p w f g h e = ap (λ (o : Option ℕ). first_of_two o w) (g refl) ∙ e
+    ap (λ (o : Option ℕ). option_or o w) (f refl) ∙ first_of_same v w (choice t v w e)
+one_step false true t v p w f g h e = ap (λ (o : Option ℕ). option_or o w) (g refl) ∙ e
 one_step false false t v p w f g h e = absurd (cc h)
 
 found_or : (b : Bool) (x : EdgeRow) (o : Option EdgeRow) → is_some (cond b (Some x) o) ≡ (b || is_some o)

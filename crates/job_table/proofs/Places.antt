@@ -6,7 +6,8 @@ use Rattle.std.proofs.lemmas.Bool.Decides.{nat_tests}
 use Rattle.std.proofs.lemmas.List.Sums.{sum_by-cons, fails_before_first}
 use Rattle.delf_model.specs.declared.entry.What.{What}
 use Rattle.delf_model.specs.declared.ids.JobName.{JobName}
-use Rattle.delf_model.specs.State.{JobRow, Logged, Handled, job_row, starts_at, handled_at, find_job, last_of, named_start, same_name, is_job}
+use Rattle.delf_model.specs.State.{JobRow, Logged, Handled, job_row, starts_at, find_job, last_of, named_start, same_name, is_job}
+use Rattle.delf_model.specs.Step.{handled_at}
 use Rattle.delf_model.specs.Order.{erases_same}
 use Rattle.job_table.specs.Table.{given_up, greatest, owner_among, owned_among, is_of_id, is_of_owner, job_of_pair}
 use Rattle.job_table.specs.Parts.{changed_first, row_of, is_start, logged_of, handled_of, ItemPart, JobPart, ClaimPart}

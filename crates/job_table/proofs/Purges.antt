@@ -3,7 +3,7 @@ use Rattle.std.specs.Prelude.{find, nat_eq, nat_lt}
 use Rattle.std.specs.List.{position, list_any, position_or_len}
 use Rattle.std.proofs.lemmas.Bool.Decides.{nat_tests}
 use Rattle.std.proofs.lemmas.List.Sums.{position_or_len_is}
-use Rattle.delf_model.specs.Legal.{last_erasure_or_zero}
+use Rattle.delf_model.specs.State.{last_erasure_or_zero}
 use Rattle.delf_model.specs.State.{State, JobRow, Logged, owned, left}
 use Rattle.delf_model.specs.Order.{purges, purge_of, first_purge}
 use Rattle.job_table.specs.declared.jobs.Row.{Row}

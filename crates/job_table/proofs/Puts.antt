@@ -7,8 +7,13 @@ use Rattle.delf_model.specs.declared.rows.Item.TheVariants as item
 use Rattle.delf_model.specs.declared.call.Cause.{Cause}
 use Rattle.delf_model.specs.declared.entry.What.TheVariants.{Put}
 use Rattle.delf_model.specs.Graph.{changed, Change, Same as Unchanged, PutsObject, PutsEdge, object_at, edge_at, objects_rise, put_object}
-use Rattle.delf_model.specs.State.{State, Logged, Handled, owners_after, step, is_open, job_of, judged, taken, end_cause, key_taken, first_of_two, put_unless, put_change, outcome, handled_at, is_pair_of}
-use Rattle.delf_model.specs.Legal.{owed, room_limit, owed_for_edge, owed_for_item, is_legal, may_put, ends_handled}
+use Rattle.delf_model.specs.State.{State, Logged, Handled, is_open, job_of, is_pair_of}
+use Rattle.delf_model.specs.Owners.{owners_after}
+use Rattle.delf_model.specs.Step.{step, put_unless, put_change, outcome, handled_at}
+use Rattle.delf_model.specs.Puts.{judged, taken, end_cause, key_taken}
+use Rattle.std.specs.Option.{option_or}
+use Rattle.delf_model.specs.Room.{owed, room_limit, owed_for_edge, owed_for_item}
+use Rattle.delf_model.specs.Legal.{is_legal, may_put, ends_handled}
 use Rattle.job_table.specs.Table.{Table, IsTableOf}
 use Rattle.job_table.specs.Notes.{noted_put, item_weight, put_weight}
 use Rattle.job_table.proofs.Lookups.{both, all_found, found_after_put}
@@ -115,7 +120,7 @@ object_free s job row h = go (object_at s.graph row.id) h
     go None n = refl
     go (Some x) n = absurd (cc n)
 
-two_none : (x r : Option Cause) → first_of_two x r ≡ None → (x ≡ None) × (r ≡ None)
+two_none : (x r : Option Cause) → option_or x r ≡ None → (x ≡ None) × (r ≡ None)
 two_none None r h = (refl, h)
 two_none (Some x) r h = absurd (cc h)
 
@@ -123,7 +128,7 @@ pub edge_key_free : (s : State) (job : ℕ) (row : EdgeRow) (a b : ℕ) → judg
 edge_key_free s job row a b h =
     go (edge_at s.graph row.key)
     (two_none (end_cause s row.key.to b) (key_taken (edge_at s.graph row.key))
-    (two_none (end_cause s row.key.from a) (first_of_two (end_cause s row.key.to b) (key_taken (edge_at s.graph row.key))) h).1).1
+    (two_none (end_cause s row.key.from a) (option_or (end_cause s row.key.to b) (key_taken (edge_at s.graph row.key))) h).1).1
   where
     go : (o : Option EdgeRow) → key_taken o ≡ None → o ≡ None
     go None n = refl

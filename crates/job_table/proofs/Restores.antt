@@ -2,7 +2,8 @@ use Rattle.std.proofs.Common.{◌≡◌, ℕ, zero, suc, ◌<◌, Bool, true, fa
 use Rattle.std.specs.Prelude.{find, nat_eq, nat_lt, count_by, slice_get, option_and_then}
 use Rattle.std.proofs.lemmas.Bool.Decides.{nat_tests}
 use Rattle.delf_model.specs.declared.ids.JobName.{JobName}
-use Rattle.delf_model.specs.State.{JobRow, Logged, Handled, job_of, starts_at, new_job, restored_at, purged_if, erased_at, handled_at}
+use Rattle.delf_model.specs.State.{JobRow, Logged, Handled, job_of, starts_at}
+use Rattle.delf_model.specs.Step.{new_job, row_restored_at, purged_if, erased_at, handled_at}
 use Rattle.job_table.specs.declared.tallies.Tally.{Tally}
 use Rattle.job_table.specs.Items.{is_unhandled_of}
 use Rattle.job_table.specs.Parts.{changed_first}
@@ -99,16 +100,16 @@ restored_purged job rows other =
     restored_changed (starts_at job) (purged_if job) (λ row. by (nat_eq row.start job) (λ r. r.start) (record row { purged = true }) row refl)
     (λ row. by (nat_eq row.start job) (λ r. r.restored) (record row { purged = true }) row refl) rows other
 
-pub others_restored : (job at : ℕ) (rows : List JobRow) (items : List Logged) (other : ℕ) → nat_eq other job ≡ false → restoring_at (changed_first (starts_at job) (restored_at job at) rows) items other ≡ restoring_at rows items other
+pub others_restored : (job at : ℕ) (rows : List JobRow) (items : List Logged) (other : ℕ) → nat_eq other job ≡ false → restoring_at (changed_first (starts_at job) (row_restored_at job at) rows) items other ≡ restoring_at rows items other
 others_restored job at rows items other n = ap (λ (o : Option JobRow). cond (nat_lt 0 (count_by (is_unhandled_of other) items)) (option_and_then restored_of_row o) None) (go rows)
   where
-    outer : (x : JobRow) (xs : List JobRow) (b : Bool) → nat_eq x.start job ≡ b → find (starts_at other) (changed_first (starts_at job) (restored_at job at) xs) ≡ find (starts_at other) xs →
-        find (starts_at other) (cond b (cond b (record x { restored = Some at }) x ∷ xs) (x ∷ changed_first (starts_at job) (restored_at job at) xs)) ≡ find (starts_at other) (x ∷ xs)
+    outer : (x : JobRow) (xs : List JobRow) (b : Bool) → nat_eq x.start job ≡ b → find (starts_at other) (changed_first (starts_at job) (row_restored_at job at) xs) ≡ find (starts_at other) xs →
+        find (starts_at other) (cond b (cond b (record x { restored = Some at }) x ∷ xs) (x ∷ changed_first (starts_at job) (row_restored_at job at) xs)) ≡ find (starts_at other) (x ∷ xs)
     outer x xs true h more =
         let apart : nat_eq x.start other ≡ false = grind (arith, nat_tests, h, n) in
         ap (λ (c : Bool). cond c (Some (record x { restored = Some at })) (find (starts_at other) xs)) apart ∙ sym (ap (λ (c : Bool). cond c (Some x) (find (starts_at other) xs)) apart)
     outer x xs false h more = ap (λ (o : Option JobRow). cond (nat_eq x.start other) (Some x) o) more
 
-    go : (xs : List JobRow) → find (starts_at other) (changed_first (starts_at job) (restored_at job at) xs) ≡ find (starts_at other) xs
+    go : (xs : List JobRow) → find (starts_at other) (changed_first (starts_at job) (row_restored_at job at) xs) ≡ find (starts_at other) xs
     go [] = refl
     go (x ∷ xs) = outer x xs (nat_eq x.start job) refl (go xs)

@@ -5,7 +5,8 @@ use Rattle.std.proofs.lemmas.Bool.Decides.{nat_tests}
 use Rattle.std.proofs.lemmas.List.Quantifiers.{position-Some}
 use Rattle.std.proofs.lemmas.List.Sums.{position_or_len_is}
 use Rattle.delf_model.specs.declared.ids.JobName.{JobName}
-use Rattle.delf_model.specs.State.{State, JobRow, new_job}
+use Rattle.delf_model.specs.State.{State, JobRow}
+use Rattle.delf_model.specs.Step.{new_job}
 use Rattle.job_table.specs.declared.jobs.Row.{Row}
 use Rattle.job_table.specs.Table.{Table, IsTableOf, starts_rise}
 use Rattle.job_table.specs.Parts.{row_of, is_start, starts_before}

@@ -5,8 +5,9 @@ use Rattle.std.proofs.lemmas.Grind.{common_steps}
 use Rattle.std.proofs.lemmas.List.Sums.{sum_by-cons, sum_by_push}
 use Rattle.delf_model.specs.declared.rows.Item.{Item}
 use Rattle.delf_model.specs.declared.ids.JobName.{JobName}
-use Rattle.delf_model.specs.State.{JobRow, Logged, Handled, job_row, starts_at, is_restored, is_restored_row, restored_at, purged_if, erased_at, new_job, job_of, is_object_item, unhandled, handled_at}
-use Rattle.delf_model.specs.Legal.{owed_for_job, owed_for_item}
+use Rattle.delf_model.specs.State.{JobRow, Logged, Handled, job_row, starts_at, is_restored, is_restored_row, job_of, is_object_item}
+use Rattle.delf_model.specs.Step.{row_restored_at, purged_if, erased_at, new_job, unhandled, handled_at}
+use Rattle.delf_model.specs.Room.{owed_for_job, owed_for_item}
 use Rattle.job_table.specs.Table.{starts_rise}
 use Rattle.job_table.specs.Notes.{weight_of}
 use Rattle.job_table.specs.Parts.{changed_first}
@@ -26,7 +27,7 @@ job_row-purged job other [] = refl
 job_row-purged job other (x ∷ xs) = grind (arith, nat_tests, common_steps, job_row-purged job other xs)
 
 pub job_row-restored : (job position other : ℕ) (rows : List JobRow) →
-    job_row (map (restored_at job position) rows) other ≡ option_map (restored_at job position) (job_row rows other)
+    job_row (map (row_restored_at job position) rows) other ≡ option_map (row_restored_at job position) (job_row rows other)
 job_row-restored job position other [] = refl
 job_row-restored job position other (x ∷ xs) = grind (arith, nat_tests, common_steps, job_row-restored job position other xs)
 
@@ -92,7 +93,7 @@ apart other job rows row e n = go (nat_eq other job) refl
 
 -- a job that is restored then
 pub is_restored-restored : (job position other : ℕ) (row : JobRow) (rows : List JobRow) → job_row rows job ≡ Some row →
-    is_restored (map (restored_at job position) rows) other ≡ (is_restored rows other || nat_eq other job)
+    is_restored (map (row_restored_at job position) rows) other ≡ (is_restored rows other || nat_eq other job)
 is_restored-restored job position other row rows e =
     ap is_restored_row (job_row-restored job position other rows) ∙ go (job_row rows other) refl
   where
@@ -104,7 +105,7 @@ is_restored-restored job position other row rows e =
     missing n = apart other job rows row e n
 
     go : (o : Option JobRow) → job_row rows other ≡ o →
-        is_restored_row (option_map (restored_at job position) o) ≡ (is_restored_row o || nat_eq other job)
+        is_restored_row (option_map (row_restored_at job position) o) ≡ (is_restored_row o || nat_eq other job)
     go None n = sym (missing n)
     go (Some r) n = pick (nat_eq r.start job) r ∙ ap (λ (k : ℕ). is_some r.restored || nat_eq k job) (job_row_is other r rows n)
 
@@ -254,5 +255,5 @@ erased_other job moment row e = ap (λ (b : Bool). cond b (record row { last = S
 pub purged_other : (job : ℕ) (row : JobRow) → nat_eq row.start job ≡ false → purged_if job row ≡ row
 purged_other job row e = ap (λ (b : Bool). cond b (record row { purged = true }) row) e
 
-pub restored_other : (job position : ℕ) (row : JobRow) → nat_eq row.start job ≡ false → restored_at job position row ≡ row
+pub restored_other : (job position : ℕ) (row : JobRow) → nat_eq row.start job ≡ false → row_restored_at job position row ≡ row
 restored_other job position row e = ap (λ (b : Bool). cond b (record row { restored = Some position }) row) e

@@ -5,7 +5,8 @@ use Rattle.std.proofs.lemmas.Bool.Decides.{nat_tests}
 use Rattle.delf_model.specs.declared.call.Listed.{Listed}
 use Rattle.delf_model.specs.declared.rows.Item.{Item}
 use Rattle.delf_model.specs.declared.rows.Item.TheVariants.{Object, Edge}
-use Rattle.delf_model.specs.State.{Logged, job_of, first_of_two}
+use Rattle.delf_model.specs.State.{Logged, job_of}
+use Rattle.std.specs.Option.{option_or}
 use Rattle.delf_model.specs.Legal.{is_handled_end, is_end_item}
 use Rattle.delf_model.specs.Order.{last_place}
 use Rattle.delf_model.specs.Report.{is_of_job, listed_from, listed_by}
@@ -45,7 +46,7 @@ all_fail p xs n i from before l k x e = go (nat_lt k i) refl
 last_none : (p : Logged → Bool) (n : ℕ) (xs : List Logged) → ((k : ℕ) (x : Logged) → slice_get xs k ≡ Some x → p x ≡ false) → last_place p n xs ≡ None
 last_none p n [] h = refl
 last_none p n (x ∷ xs) h =
-    ap (λ (o : Option ℕ). first_of_two o (cond (p x) (Some n) None)) (last_none p (n + 1) xs (λ k y e. h (suc k) y e)) ∙ ap (λ (b : Bool). cond {A = Option ℕ} b (Some n) None) (h zero x refl)
+    ap (λ (o : Option ℕ). option_or o (cond (p x) (Some n) None)) (last_none p (n + 1) xs (λ k y e. h (suc k) y e)) ∙ ap (λ (b : Bool). cond {A = Option ℕ} b (Some n) None) (h zero x refl)
 
 last_here : (p : Logged → Bool) (n : ℕ) (xs : List Logged) (i : ℕ) (x : Logged) → slice_get xs i ≡ Some x → p x ≡ true → FailsFrom p xs (i + 1) → last_place p n xs ≡ Some (n + i)
 last_here p n [] i x e t f = absurd (cc e)
@@ -53,10 +54,10 @@ last_here p n (y ∷ ys) zero x e t f =
     let same : y ≡ x = cc e in
     let is : p y ≡ true = ap p same ∙ t in
     let at : n ≡ n + 0 = omega arith in
-    ap (λ (o : Option ℕ). first_of_two o (cond (p y) (Some n) None)) (last_none p (n + 1) ys (λ k z g. f (suc k) z g (omega arith))) ∙ ap (λ (b : Bool). cond {A = Option ℕ} b (Some n) None) is ∙ ap (λ (m : ℕ). Some m) at
+    ap (λ (o : Option ℕ). option_or o (cond (p y) (Some n) None)) (last_none p (n + 1) ys (λ k z g. f (suc k) z g (omega arith))) ∙ ap (λ (b : Bool). cond {A = Option ℕ} b (Some n) None) is ∙ ap (λ (m : ℕ). Some m) at
 last_here p n (y ∷ ys) (suc i) x e t f =
     let at : (n + 1) + i ≡ n + suc i = omega arith in
-    ap (λ (o : Option ℕ). first_of_two o (cond (p y) (Some n) None)) (last_here p (n + 1) ys i x e t (λ k z g l. f (suc k) z g (omega (arith, l)))) ∙ ap (λ (m : ℕ). Some m) at
+    ap (λ (o : Option ℕ). option_or o (cond (p y) (Some n) None)) (last_here p (n + 1) ys i x e t (λ k z g l. f (suc k) z g (omega (arith, l)))) ∙ ap (λ (m : ℕ). Some m) at
 
 pub found_last : (p : Logged → Bool) (xs : List Logged) (i : ℕ) (x : Logged) → slice_get xs i ≡ Some x → p x ≡ true → FailsFrom p xs (i + 1) → Some i ≡ last_place p 0 xs
 found_last p xs i x e t f = let at : i ≡ 0 + i = omega arith in ap (λ (m : ℕ). Some m) at ∙ sym (last_here p 0 xs i x e t f)

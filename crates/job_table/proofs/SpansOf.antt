@@ -1,7 +1,8 @@
 use Rattle.std.proofs.Common.{◌≡◌, ℕ, zero, suc, ◌+◌, ◌-◌, ◌<◌, ◌≤◌, Bool, true, false, cond, List, [], ◌∷◌, ◌++◌, length, Option, Some, refl, sym, ap, ◌∙◌, subst, arith, ◌⊎◌, inl, inr}
 use Rattle.std.specs.Prelude.{nat_eq, nat_lt, slice_get, is_none, unwrap_or}
 use Rattle.std.proofs.lemmas.Bool.Decides.{nat_tests}
-use Rattle.delf_model.specs.State.{Logged, Handled, job_of, handled_at}
+use Rattle.delf_model.specs.State.{Logged, Handled, job_of}
+use Rattle.delf_model.specs.Step.{handled_at}
 use Rattle.job_table.specs.declared.spans.Span.{Span}
 use Rattle.job_table.specs.Spans.{no_span, grown_span, handled_span, InSpan, Spans, Within, SpansFit}
 use Rattle.job_table.proofs.Tallying.{handled_length}

@@ -1,7 +1,8 @@
 use Rattle.std.proofs.Common.{◌≡◌, ℕ, ◌+◌, Bool, true, false, [], ◌∷◌, ◌++◌, refl, sym, ◌∙◌, ap, arith}
 use Rattle.std.specs.Prelude.{nat_eq}
 use Rattle.delf_model.specs.declared.ids.JobName.{JobName}
-use Rattle.delf_model.specs.State.{State, owned, new_job, is_restored, is_restored_row, job_row}
+use Rattle.delf_model.specs.State.{State, owned, is_restored, is_restored_row, job_row}
+use Rattle.delf_model.specs.Step.{new_job}
 use Rattle.job_table.specs.Table.{Keeps}
 use Rattle.job_table.proofs.Passing.{one_if}
 use Rattle.job_table.proofs.Steps.{eqb_is}

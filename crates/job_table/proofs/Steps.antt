@@ -10,7 +10,9 @@ use Rattle.delf_model.specs.declared.rows.EdgeRow.{EdgeRow}
 use Rattle.delf_model.specs.RuleSet.{RuleSet, is_refcount, is_deep}
 use Rattle.delf_model.specs.Graph.{Graph, TakesEdge, changed, has_id, has_key, same_key, object_at, edge_at, edge_stands, stands, is_born_at, objects_rise, edges_rise, is_other_edge, is_reference, has_refs}
 use Rattle.delf_model.specs.Store.{EndsStand, counted_refs, is_counted}
-use Rattle.delf_model.specs.State.{Owners, owner_in, next_owner, owned_row, owners_after, first_of_two, root_owner, first_passed, condemns}
+use Rattle.delf_model.specs.State.{Owners, owner_in}
+use Rattle.delf_model.specs.Owners.{next_owner, owned_row, owners_after, root_owner, first_passed, condemns}
+use Rattle.std.specs.Option.{option_or}
 use Rattle.job_table.specs.Table.{id_of_owner, id_of}
 use Rattle.job_table.proofs.Lookups.{find_is, same_key_is, find-filter_edge, same_key_self, found_after_take}
 use Rattle.job_table.proofs.Passing.{find-owned_rows, no_owner, first_passed_none, first_passed_one, passed_by, one_if}
@@ -50,18 +52,18 @@ owner_new rules g now root p owners id n = find-owned_rows rules g now root p ow
     go : (o : Option ObjectRow) → object_at now id ≡ o → option_and_then (next_owner rules g now root p owners) o ≡ None
     go None e = refl
     go (Some row) e =
-        off (stands g row.id row.birth) (first_of_two (owner_in owners row.id) (first_of_two (root_owner root p row.id) (first_passed rules now owners row.id g.edges)))
+        off (stands g row.id row.birth) (option_or (owner_in owners row.id) (option_or (root_owner root p row.id) (first_passed rules now owners row.id g.edges)))
         (ap (λ (k : ℕ). is_born_at row.birth (object_at g k)) (find_is id row now.objects e) ∙ ap (is_born_at row.birth) n)
 
 pub owner_kept : (rules : RuleSet) (g now : Graph) (root : Option ℕ) (p : ℕ) (owners : Owners) (id : ℕ) (row next : ObjectRow) →
     object_at g id ≡ Some row → object_at now id ≡ Some next → next.birth ≡ row.birth →
     owner_in (owners_after rules g now root p owners) id ≡
-    first_of_two (owner_in owners id) (first_of_two (root_owner root p id) (first_passed rules now owners id g.edges))
+    option_or (owner_in owners id) (option_or (root_owner root p id) (first_passed rules now owners id g.edges))
 owner_kept rules g now root p owners id row next e f b =
     find-owned_rows rules g now root p owners id now.objects
     ∙ ap (option_and_then (next_owner rules g now root p owners)) f
-    ∙ on (stands g next.id next.birth) (first_of_two (owner_in owners next.id) (first_of_two (root_owner root p next.id) (first_passed rules now owners next.id g.edges))) born
-    ∙ ap (λ (k : ℕ). first_of_two (owner_in owners k) (first_of_two (root_owner root p k) (first_passed rules now owners k g.edges))) (find_is id next now.objects f)
+    ∙ on (stands g next.id next.birth) (option_or (owner_in owners next.id) (option_or (root_owner root p next.id) (first_passed rules now owners next.id g.edges))) born
+    ∙ ap (λ (k : ℕ). option_or (owner_in owners k) (option_or (root_owner root p k) (first_passed rules now owners k g.edges))) (find_is id next now.objects f)
   where
     on : (t : Bool) (v : Option ℕ) → t ≡ true → cond t v None ≡ v
     on true v h = refl
@@ -70,7 +72,7 @@ owner_kept rules g now root p owners id row next e f b =
     born : stands g next.id next.birth ≡ true
     born = ap (λ (k : ℕ). is_born_at next.birth (object_at g k)) (find_is id next now.objects f) ∙ ap (is_born_at next.birth) e ∙ ap (eqb row.birth) b ∙ eqb_self row.birth
 
-pub first_with_none : (o : Option ℕ) → first_of_two o None ≡ o
+pub first_with_none : (o : Option ℕ) → option_or o None ≡ o
 first_with_none None = refl
 first_with_none (Some n) = refl
 
@@ -85,7 +87,7 @@ owner_unpassed rules g now p owners ids stay edges id = go (object_at g id) refl
     go (Some row) e =
         let found = stay id row e in
         owner_kept rules g now None p owners id row found.0 e found.1 found.2
-        ∙ ap (first_of_two (owner_in owners id)) (edges id)
+        ∙ ap (option_or (owner_in owners id)) (edges id)
         ∙ first_with_none (owner_in owners id)
 
 pub owner_same : (rules : RuleSet) (g now : Graph) (p : ℕ) (owners : Owners) → map id_of_owner owners ≡ map id_of g.objects →
@@ -108,7 +110,7 @@ owner_staying rules g now p owners id ids same edges = go (object_at g id) refl
     go None e = owner_new rules g now None p owners id e ∙ sym (no_owner id owners g.objects ids e)
     go (Some row) e =
         owner_kept rules g now None p owners id row row e (same ∙ e) refl
-        ∙ ap (first_of_two (owner_in owners id)) (first_passed_none rules now owners id g.edges edges)
+        ∙ ap (option_or (owner_in owners id)) (first_passed_none rules now owners id g.edges edges)
         ∙ first_with_none (owner_in owners id)
 
 -- a job that starts owns its root
@@ -117,8 +119,8 @@ pub owner_root : (rules : RuleSet) (g now : Graph) (root p : ℕ) (owners : Owne
 owner_root rules g now root p owners row stay e n =
     let found = stay root row e in
     owner_kept rules g now (Some root) p owners root row found.0 e found.1 found.2
-    ∙ ap (λ (o : Option ℕ). first_of_two o (first_of_two (root_owner (Some root) p root) (first_passed rules now owners root g.edges))) n
-    ∙ ap (λ (b : Bool). first_of_two (cond b (Some p) None) (first_passed rules now owners root g.edges)) (eqb_self root)
+    ∙ ap (λ (o : Option ℕ). option_or o (option_or (root_owner (Some root) p root) (first_passed rules now owners root g.edges))) n
+    ∙ ap (λ (b : Bool). option_or (cond b (Some p) None) (first_passed rules now owners root g.edges)) (eqb_self root)
 
 pub owner_root_other : (rules : RuleSet) (g now : Graph) (root p : ℕ) (owners : Owners) → map id_of_owner owners ≡ map id_of g.objects →
     ObjectsStay g now → ((id : ℕ) → first_passed rules now owners id g.edges ≡ None) → (id : ℕ) → (id ≡ root → ⊥) →
@@ -134,8 +136,8 @@ owner_root_other rules g now root p owners ids stay edges id ne = go (object_at 
     go (Some row) e =
         let found = stay id row e in
         owner_kept rules g now (Some root) p owners id row found.0 e found.1 found.2
-        ∙ ap (λ (o : Option ℕ). first_of_two (owner_in owners id) (first_of_two o (first_passed rules now owners id g.edges))) (off (eqb root id) refl)
-        ∙ ap (first_of_two (owner_in owners id)) (edges id)
+        ∙ ap (λ (o : Option ℕ). option_or (owner_in owners id) (option_or o (first_passed rules now owners id g.edges))) (off (eqb root id) refl)
+        ∙ ap (option_or (owner_in owners id)) (edges id)
         ∙ first_with_none (owner_in owners id)
 
 -- the ids of the owners after an entry
@@ -171,7 +173,7 @@ nothing_passed rules g owners key e n id =
 pub owner_cut : (rules : RuleSet) (g : Graph) (p : ℕ) (owners : Owners) (key : EdgeKey) → map id_of_owner owners ≡ map id_of g.objects →
     edge_stands g key ≡ true → is_some (object_at g key.to) ≡ true → (id : ℕ) →
     owner_in (owners_after rules g (changed g (TakesEdge key)) None p owners) id ≡
-    first_of_two (owner_in owners id) (passed_by rules (changed g (TakesEdge key)) owners id key)
+    option_or (owner_in owners id) (passed_by rules (changed g (TakesEdge key)) owners id key)
 owner_cut rules g p owners key ids e t id = go (object_at g id) refl
   where
     now : Graph
@@ -186,14 +188,14 @@ owner_cut rules g p owners key ids e t id = go (object_at g id) refl
 
     go : (o : Option ObjectRow) → object_at g id ≡ o →
         owner_in (owners_after rules g (changed g (TakesEdge key)) None p owners) id ≡
-        first_of_two (owner_in owners id) (passed_by rules (changed g (TakesEdge key)) owners id key)
+        option_or (owner_in owners id) (passed_by rules (changed g (TakesEdge key)) owners id key)
     go None n =
         owner_new rules g (changed g (TakesEdge key)) None p owners id n
-        ∙ sym (ap (λ (o : Option ℕ). first_of_two o (passed_by rules (changed g (TakesEdge key)) owners id key)) (no_owner id owners g.objects ids n)
+        ∙ sym (ap (λ (o : Option ℕ). option_or o (passed_by rules (changed g (TakesEdge key)) owners id key)) (no_owner id owners g.objects ids n)
         ∙ off (eqb key.to id) (condemns rules (changed g (TakesEdge key)) key) (owner_in owners key.from) (lost n))
     go (Some row) f =
         owner_kept rules g (changed g (TakesEdge key)) None p owners id row row f f refl
-        ∙ ap (first_of_two (owner_in owners id)) (passed_by_taken rules g owners id key e)
+        ∙ ap (option_or (owner_in owners id)) (passed_by_taken rules g owners id key e)
 
 -- whether a cut condemns its target, by the count of references before it
 

@@ -2,7 +2,8 @@ use Rattle.std.proofs.Common.{◌≡◌, ℕ, zero, suc, ◌+◌, ◌-◌, ◌*�
 use Rattle.std.specs.Prelude.{nat_eq, sum_by, count_by, unwrap_or, is_none}
 use Rattle.std.proofs.lemmas.Bool.Decides.{nat_tests}
 use Rattle.std.proofs.lemmas.List.Sums.{sum_by-cons, sum_by_push, count_by-le-length}
-use Rattle.delf_model.specs.State.{Logged, Handled, is_object_item, job_of, handled_at}
+use Rattle.delf_model.specs.State.{Logged, Handled, is_object_item, job_of}
+use Rattle.delf_model.specs.Step.{handled_at}
 use Rattle.delf_model.specs.Report.{is_of_job, is_object_of, is_edge_of, is_put_of, is_listed_of, was_put, was_listed}
 use Rattle.job_table.specs.declared.tallies.Tally.{Tally}
 use Rattle.job_table.specs.Items.{is_unhandled_of}

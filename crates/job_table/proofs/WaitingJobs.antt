@@ -3,7 +3,7 @@ use Rattle.std.specs.Prelude.{insert, remove, find, nat_eq, nat_lt, option_map, 
 use Rattle.std.specs.List.{position, list_any}
 use Rattle.std.proofs.lemmas.Bool.Decides.{nat_tests}
 use Rattle.std.proofs.lemmas.List.Quantifiers.{position-Some}
-use Rattle.delf_model.specs.Legal.{last_erasure_or_zero}
+use Rattle.delf_model.specs.State.{last_erasure_or_zero}
 use Rattle.delf_model.specs.State.{JobRow, job_row, starts_at}
 use Rattle.job_table.specs.declared.jobs.Row.{Row}
 use Rattle.job_table.specs.Owning.{is_before, rise_after, pairs_rise}

@@ -2,7 +2,8 @@ use Rattle.std.specs.Prelude.{ℕ, ◌+◌, Bool, true, false, ◌&&◌, not, na
 use Rattle.delf_model.specs.declared.call.Status.{Status}
 use Rattle.delf_model.specs.declared.call.Status.TheVariants.{NoJob, Pending, Done, Restoring, Restored, Purged}
 use Rattle.delf_model.specs.State.{State, JobRow, owned, find_job, is_job}
-use Rattle.delf_model.specs.Legal.{owed, room_limit, window_passed}
+use Rattle.delf_model.specs.Room.{owed, room_limit}
+use Rattle.delf_model.specs.Legal.{window_passed}
 use Rattle.delf_model.specs.Report.{status_of_row}
 use Rattle.job_table.specs.Notes.{weight_of}
 

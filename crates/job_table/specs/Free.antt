@@ -3,7 +3,7 @@ use Rattle.delf_model.specs.declared.rows.EdgeRow.{EdgeRow}
 use Rattle.delf_model.specs.declared.entry.What.{What}
 use Rattle.delf_model.specs.declared.entry.What.TheVariants.{Cut, Erase}
 use Rattle.delf_model.specs.Graph.{Graph, is_touched, out_edges, in_edges}
-use Rattle.delf_model.specs.State.{first_of_two}
+use Rattle.std.specs.Option.{option_or}
 use Rattle.delf_model.specs.Order.{is_held}
 
 -- the step of the job that takes this edge
@@ -24,8 +24,8 @@ free_erase g held job id = cond (is_touched g id || is_held held (Erase job id))
 -- a step of the owner that takes an edge of the object, or the object, and is not held
 abbrev pub free_step : Graph → List What → ℕ × ℕ → Option What
 free_step g held pair =
-    first_of_two (free_cut held pair.1 (out_edges g pair.0))
-    (first_of_two (free_cut held pair.1 (in_edges g pair.0)) (free_erase g held pair.1 pair.0))
+    option_or (free_cut held pair.1 (out_edges g pair.0))
+    (option_or (free_cut held pair.1 (in_edges g pair.0)) (free_erase g held pair.1 pair.0))
 
 abbrev pub has_free : Graph → List What → ℕ × ℕ → Bool
 has_free g held pair = is_some (free_step g held pair)

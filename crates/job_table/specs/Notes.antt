@@ -6,7 +6,8 @@ use Rattle.delf_model.specs.declared.call.Cause.{Cause}
 use Rattle.delf_model.specs.RuleSet.{RuleSet, is_deep, is_refcount}
 use Rattle.delf_model.specs.Graph.{Graph}
 use Rattle.delf_model.specs.Store.{counted_refs}
-use Rattle.delf_model.specs.State.{Logged, Handled, is_object_item, new_job, starts_at, restored_at, purged_if, erased_at, unhandled, handled_at}
+use Rattle.delf_model.specs.State.{Logged, Handled, is_object_item, starts_at}
+use Rattle.delf_model.specs.Step.{new_job, row_restored_at, purged_if, erased_at, unhandled, handled_at}
 use Rattle.job_table.specs.Table.{Table}
 use Rattle.job_table.specs.Items.{is_unhandled_of}
 use Rattle.job_table.specs.Parts.{changed_first}
@@ -35,7 +36,7 @@ noted_start t moment seat root name owed = record (noted t moment seat owed) {
 -- an entry that restores a job
 abbrev pub noted_restore : Table → ℕ → Option ℕ → ℕ → ℕ → Table
 noted_restore t moment seat job owed = record (noted t moment seat owed) {
-  jobs = changed_first (starts_at job) (restored_at job t.len) t.jobs;
+  jobs = changed_first (starts_at job) (row_restored_at job t.len) t.jobs;
 }
 
 -- an entry that purges a job

@@ -1,6 +1,6 @@
 use Rattle.std.specs.Prelude.{ℕ, ◌+◌, Bool, cond, ◌&&◌, not, nat_eq, nat_lt, List, is_some, count_by}
 use Rattle.delf_model.specs.State.{Logged}
-use Rattle.delf_model.specs.Legal.{last_erasure_or_zero}
+use Rattle.delf_model.specs.State.{last_erasure_or_zero}
 use Rattle.job_table.specs.Table.{owned_among}
 use Rattle.job_table.specs.Items.{is_unhandled_of}
 use Rattle.job_table.specs.declared.jobs.Row.{Row}

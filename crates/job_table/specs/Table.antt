@@ -6,7 +6,8 @@ use Rattle.delf_model.specs.declared.entry.What.{What}
 use Rattle.delf_model.specs.RuleSet.{RuleSet, is_refcount}
 use Rattle.delf_model.specs.Graph.{Graph}
 use Rattle.delf_model.specs.State.{State, Logged, JobRow, owner, owned, job_row, is_restored}
-use Rattle.delf_model.specs.Legal.{owed, room, room_limit, is_legal}
+use Rattle.delf_model.specs.Room.{owed, room, room_limit}
+use Rattle.delf_model.specs.Legal.{is_legal}
 use Rattle.delf_model.specs.Order.{erases_same}
 
 -- what a table holds: the state after a history without its graph, the steps that are held, and how many further

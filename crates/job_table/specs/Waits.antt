@@ -1,6 +1,6 @@
 use Rattle.std.specs.Prelude.{◌≡◌, ℕ, ◌+◌, ◌<◌, ◌≤◌, Bool, true, cond, ◌&&◌, not, nat_lt, List, Option, Some, None, find, length, slice_index_or, option_and_then, IsTrue}
 use Rattle.delf_model.specs.State.{JobRow}
-use Rattle.delf_model.specs.Legal.{last_erasure_or_zero}
+use Rattle.delf_model.specs.State.{last_erasure_or_zero}
 use Rattle.job_table.specs.declared.jobs.Row.{Row}
 use Rattle.job_table.specs.Apart.{are_apart}
 use Rattle.job_table.specs.Owning.{pairs_rise}

@@ -3,13 +3,16 @@ ghost use Rattle.delf_model.specs.declared.entry.What.{What};
 ghost use Rattle.delf_model.specs.declared.entry.Entry.{Entry};
 ghost use Rattle.delf_model.specs.Graph.{edge_at, edge_stands, stands};
 ghost use Rattle.delf_model.specs.declared.rows.EdgeRow.{EdgeRow};
-ghost use Rattle.delf_model.specs.State.{State, step, owner, judged as judgement_of, birth_of, is_job, first_of_two, end_cause, key_taken};
+ghost use Rattle.delf_model.specs.State.{State, owner, is_job};
+ghost use Rattle.delf_model.specs.Step.{step, birth_of};
+ghost use Rattle.delf_model.specs.Puts.{judged as judgement_of, end_cause, key_taken};
+ghost use Rattle.std.specs.Option.{option_or};
 ghost use Rattle.delf_model.specs.Legal.{is_legal};
 ghost use Rattle.job_table.specs.Table.{IsTableOf, IsGraphOf, MayApply, owner_among, owned_among, starts_rise};
 ghost use Rattle.job_table.specs.Owning.{Gains};
 ghost use Rattle.job_table.specs.Parts.{handled_of};
 ghost use Rattle.job_table.specs.Restoring.{AreRestoring};
-ghost use Rattle.delf_model.specs.State.{unhandled, handled_at};
+ghost use Rattle.delf_model.specs.Step.{unhandled, handled_at};
 ghost use Rattle.job_table.specs.Notes.{noted, noted_start, noted_restore, noted_purge, noted_item, noted_put, with_seat, weight_of, item_weight as weight_of_item, put_weight as weight_of_put, condemns_before, takes_last};
 
 use crate::items::{Handling, Items};
@@ -334,7 +337,7 @@ impl JobTable {
         from_birth: u32,
         to_birth: u32,
     ) -> Option<Cause>
-        ensures { (s : State) → IsTableOf s self.now → G.graph graph.now ≡ s.graph → result ≡ first_of_two (end_cause s row.now.key.from from_birth) (first_of_two (end_cause s row.now.key.to to_birth) (key_taken (edge_at s.graph row.now.key))) }
+        ensures { (s : State) → IsTableOf s self.now → G.graph graph.now ≡ s.graph → result ≡ option_or (end_cause s row.now.key.from from_birth) (option_or (end_cause s row.now.key.to to_birth) (key_taken (edge_at s.graph row.now.key))) }
     {
         if let Some(cause) = self.judged_end(graph, row.key.from, from_birth) {
             return Some(cause);

@@ -1,7 +1,8 @@
 ghost use Rattle.std.specs.Prelude.{◌≡◌, ◌+◌, ◌<◌, ◌≤◌, ◌^◌, ◌++◌, ◌∷◌, [], OnOk, drop, length, slice_get, option_map, count_by, sum_by, cond, is_some, nat_eq, ◌-◌, ◌&&◌, Some, unwrap_or, ℕ};
 ghost use Rattle.delf_model.specs.Order.{last_place};
 ghost use Rattle.job_table.specs.Parts.{logged_of, handled_of};
-ghost use Rattle.delf_model.specs.State.{unhandled, handled_at, job_of as job_of_item, is_object_item};
+ghost use Rattle.delf_model.specs.Step.{unhandled, handled_at};
+ghost use Rattle.delf_model.specs.State.{job_of as job_of_item, is_object_item};
 ghost use Rattle.delf_model.specs.Report.{is_of_job, is_object_of, is_edge_of, is_put_of, is_listed_of, listed_from, was_put as was_put_back, was_listed as was_listed_so};
 ghost use Rattle.delf_model.specs.Legal.{end_handled, is_handled_end as is_handled_end_of};
 ghost use Rattle.job_table.specs.Items.{is_unhandled_of, listing_of};

@@ -7,7 +7,8 @@ ghost use Rattle.delf_model.specs.declared.ids.JobName.{JobName};
 ghost use Rattle.delf_model.specs.State.{same_name as is_same_name};
 ghost use Rattle.job_table.specs.declared.jobs.Row.{Row as RowValue};
 ghost use Rattle.job_table.specs.Table.{starts_rise};
-ghost use Rattle.delf_model.specs.State.{job_row, find_job, new_job, starts_at, restored_at, purged_if, erased_at};
+ghost use Rattle.delf_model.specs.State.{job_row, find_job, starts_at};
+ghost use Rattle.delf_model.specs.Step.{new_job, row_restored_at, purged_if, erased_at};
 
 use crate::queue::{enter, first};
 use crate::waiting::{leave_purged, wait_anew};
@@ -161,7 +162,7 @@ impl Jobs {
     }
 
     pub fn restore(&mut self, job: Job, at: u32)
-        ensures list { self.new.list ≡ changed_first (starts_at job) (restored_at job at) self.old.list }
+        ensures list { self.new.list ≡ changed_first (starts_at job) (row_restored_at job at) self.old.list }
         ensures len { length self.new.list ≡ length self.old.list }
         ensures spare { self.new.spare ≡ self.old.spare }
     {

@@ -2,7 +2,8 @@ ghost use Rattle.std.specs.Prelude.{◌≡◌, ◌+◌, Some, nat_le, slice_get,
 ghost use Rattle.delf_model.specs.declared.entry.What.{What};
 ghost use Rattle.delf_model.specs.declared.entry.Tag.{Tag};
 ghost use Rattle.delf_model.specs.State.{State, job_of as job_of_item, job_row, find_job, is_job, is_open as is_open_row, is_restored as is_restored_in};
-ghost use Rattle.delf_model.specs.Legal.{owed, is_allowed, may_put as may_put_item, may_purge as may_purge_row, ends_handled as are_ends_handled};
+ghost use Rattle.delf_model.specs.Room.{owed};
+ghost use Rattle.delf_model.specs.Legal.{is_allowed, may_put as may_put_item, may_purge as may_purge_row, ends_handled as are_ends_handled};
 ghost use Rattle.job_table.specs.Parts.{logged_of, row_of};
 ghost use Rattle.job_table.specs.Table.{IsTableOf};
 ghost use Rattle.job_table.specs.Notes.{weight_of};

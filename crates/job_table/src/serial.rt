@@ -1,6 +1,7 @@
 ghost use Rattle.std.specs.Prelude.{◌≡◌, ◌<◌, ◌≤◌, ◌^◌, None, Some, ℕ, nat_lt, ◌+◌, find, false, slice_index_or, IsTrue};
 ghost use Rattle.std.specs.List.{position};
-ghost use Rattle.delf_model.specs.State.{State, first_of_two};
+ghost use Rattle.delf_model.specs.State.{State};
+ghost use Rattle.std.specs.Option.{option_or};
 ghost use Rattle.delf_model.specs.Order.{first_put as put_of_state, first_erasure as erasure_of_state, first_expiry as expiry_of_state, first_purge as purge_of_state, first_step, put_of as put_of_place, last_place, cut_or_erase as cut_or_erase_of};
 ghost use Rattle.job_table.specs.Table.{IsTableOf, IsGraphOf};
 ghost use Rattle.job_table.specs.Apart.{are_apart};
@@ -98,7 +99,7 @@ impl JobTable {
     }
 
     fn first_but_put<G: GraphStore>(&self, graph: &G, rules: &Rules, moment: Moment) -> Option<What>
-        ensures { (s : State) → IsTableOf s self.now → IsGraphOf s (G.graph graph.now) (G.counts graph.now) rules.now → result ≡ first_of_two (erasure_of_state s) (first_of_two (expiry_of_state s moment) (purge_of_state s moment)) }
+        ensures { (s : State) → IsTableOf s self.now → IsGraphOf s (G.graph graph.now) (G.counts graph.now) rules.now → result ≡ option_or (erasure_of_state s) (option_or (expiry_of_state s moment) (purge_of_state s moment)) }
     {
         match self.first_erasure(graph) {
             Some(step) => Some(step),

@@ -1,8 +1,11 @@
 ghost use Rattle.std.specs.Prelude.{◌≡◌, ◌+◌, ◌-◌, ◌<◌, ◌≤◌, ◌++◌, ◌∷◌, [], ℕ, true, false, OnOk, length, nat_eq, count_by, Some};
 ghost use Rattle.delf_model.specs.RuleSet.{RuleSet};
 ghost use Rattle.delf_model.specs.Graph.{Graph};
-ghost use Rattle.delf_model.specs.State.{State, start, step, owner as owner_of, owned as owned_of, find_job, job_row, left};
-ghost use Rattle.delf_model.specs.Legal.{used, owed, seat_entries as entries_of_seat, is_legal, greatest_moment};
+ghost use Rattle.delf_model.specs.State.{State, start, owner as owner_of, owned as owned_of, find_job, job_row, left};
+ghost use Rattle.delf_model.specs.Step.{step};
+ghost use Rattle.delf_model.specs.Room.{used, owed, greatest_moment};
+ghost use Rattle.delf_model.specs.Reply.{seat_entries as entries_of_seat};
+ghost use Rattle.delf_model.specs.Legal.{is_legal};
 ghost use Rattle.delf_model.specs.Order.{is_held as is_held_in};
 ghost use Rattle.job_table.specs.Parts.{row_of};
 ghost use Rattle.job_table.specs.Items.{restored_status, is_unhandled_of};

@@ -6,7 +6,8 @@ use Rattle.delf_model.specs.declared.entry.What.{What}
 use Rattle.delf_model.specs.declared.entry.What.TheVariants.{Create, Update, Link, Unlink, Delete, Restore, Expire, Cut, Erase, Put, Purge}
 use Rattle.delf_model.specs.RuleSet.{RuleSet}
 use Rattle.delf_model.specs.State.{State}
-use Rattle.delf_model.specs.Legal.{is_legal, is_allowed, is_numbered, refusals}
+use Rattle.delf_model.specs.Legal.{is_legal, is_allowed, is_numbered}
+use Rattle.delf_model.specs.Reply.{refusals}
 use Rattle.delf_model.proofs.Lines.{allowed_of, numbered_of, moment_within, none_of, short}
 use Rattle.entry_codec.specs.EntryHead.{IsBounded}
 

@@ -12,8 +12,13 @@ use Rattle.delf_model.specs.declared.call.Cause.{Cause}
 use Rattle.delf_model.specs.declared.entry.What.{What}
 use Rattle.delf_model.specs.declared.entry.What.TheVariants.{Create, Update, Link, Unlink, Delete, Restore, Expire, Cut, Erase, Put, Purge}
 use Rattle.delf_model.specs.Graph.{object_at, is_touched}
-use Rattle.delf_model.specs.State.{State, Logged, judged, taken, key_of, is_owned_by, put_unless, put_change, change_of}
-use Rattle.delf_model.specs.Legal.{is_allowed, refusals, room, room_limit, owed_for_edge}
+use Rattle.delf_model.specs.State.{State, Logged, is_owned_by}
+use Rattle.delf_model.specs.Puts.{judged, taken}
+use Rattle.delf_model.specs.Owners.{key_of}
+use Rattle.delf_model.specs.Step.{put_unless, put_change, change_of}
+use Rattle.delf_model.specs.Legal.{is_allowed}
+use Rattle.delf_model.specs.Reply.{refusals}
+use Rattle.delf_model.specs.Room.{room, room_limit, owed_for_edge}
 use Rattle.delf_model.proofs.Lines.{none_of, name_free, key_free, there}
 use Rattle.delf_model.proofs.Ends.{fits_of, stands_there}
 use Rattle.ledger.specs.Edits.{CanChange}

@@ -8,8 +8,10 @@ use Rattle.delf_model.specs.declared.entry.Entry.{Entry}
 use Rattle.delf_model.specs.declared.entry.What.{What}
 use Rattle.delf_model.specs.RuleSet.{RuleSet, is_refcount}
 use Rattle.delf_model.specs.Graph.{Graph, Change, changed, empty_graph}
-use Rattle.delf_model.specs.State.{State, start, step, run, after, change_of}
-use Rattle.delf_model.specs.Legal.{is_legal, Legal, greatest_moment}
+use Rattle.delf_model.specs.State.{State, start}
+use Rattle.delf_model.specs.Step.{step, run, after, change_of}
+use Rattle.delf_model.specs.Legal.{is_legal, Legal}
+use Rattle.delf_model.specs.Room.{greatest_moment}
 use Rattle.delf_model.proofs.Runs.{after_push, Legal_push}
 use Rattle.delf_model.proofs.Lines.{allowed_of}
 use Rattle.delf_model.proofs.Good.{good_after}

@@ -11,8 +11,11 @@ use Rattle.delf_model.specs.declared.ids.JobName.{JobName}
 use Rattle.delf_model.specs.declared.ids.JobName.TheVariants.{Named, Expiry}
 use Rattle.delf_model.specs.declared.entry.What.{What}
 use Rattle.delf_model.specs.declared.entry.What.TheVariants.{Create, Update, Link, Unlink, Delete, Restore}
-use Rattle.delf_model.specs.State.{State, JobRow, tag_of, find_job, job_row, same_name, last_of, is_job}
-use Rattle.delf_model.specs.Legal.{is_legal, is_tag, is_numbered, is_allowed, is_named_so, greatest_moment, refused, answered, answered_by, restore_of, seat_entries, next_tag, reply, reply_at}
+use Rattle.delf_model.specs.State.{State, JobRow, find_job, job_row, same_name, last_of, is_job}
+use Rattle.delf_model.specs.Step.{tag_of}
+use Rattle.delf_model.specs.Legal.{is_legal, is_tag, is_numbered, is_allowed, is_named_so}
+use Rattle.delf_model.specs.Room.{greatest_moment}
+use Rattle.delf_model.specs.Reply.{refused, answered, answered_by, restore_of, seat_entries, next_tag, reply, reply_at}
 use Rattle.job_table.specs.Table.{starts_rise}
 use Rattle.ledger.specs.Ledgers.{Ledgered, state_of, is_numbered_call}
 use Rattle.ledger.proofs.Entering.{len_after}

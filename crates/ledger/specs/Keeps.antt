@@ -3,7 +3,7 @@ use Rattle.entry_codec.specs.EntryHead.{AreEntries}
 use Rattle.delf_model.specs.declared.entry.Entry.{Entry}
 use Rattle.delf_model.specs.RuleSet.{RuleSet}
 use Rattle.delf_model.specs.Graph.{Graph}
-use Rattle.delf_model.specs.State.{after}
+use Rattle.delf_model.specs.Step.{after}
 use Rattle.delf_model.specs.Legal.{Legal}
 use Rattle.job_table.specs.Table.{Table, IsTableOf, IsGraphOf}
 

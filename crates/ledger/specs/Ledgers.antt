@@ -11,7 +11,10 @@ use Rattle.delf_model.specs.declared.rows.EdgeKey.{EdgeKey}
 use Rattle.delf_model.specs.declared.rows.ObjectRow.{ObjectRow}
 use Rattle.delf_model.specs.RuleSet.{RuleSet}
 use Rattle.delf_model.specs.Graph.{Change, Same, PutsObject, TakesObject, RewritesObject, PutsEdge, TakesEdge, object_at}
-use Rattle.delf_model.specs.State.{State, after, owner, key_of, put_change, judged, size_of, position_of}
+use Rattle.delf_model.specs.State.{State, owner, size_of, position_of}
+use Rattle.delf_model.specs.Step.{after, put_change}
+use Rattle.delf_model.specs.Owners.{key_of}
+use Rattle.delf_model.specs.Puts.{judged}
 
 -- a book without its disk: rules and history, the stored graph, the steps that are held, and how many further entries
 -- and held steps need no memory but for what they put into the graph

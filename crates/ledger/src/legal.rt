@@ -1,7 +1,9 @@
 ghost use Rattle.std.specs.Prelude.{◌≡◌, ◌||◌, max, min, is_none, nat_lt, slice_get, is_some};
-ghost use Rattle.delf_model.specs.State.{State, is_owned_by, tag_of as tag_of_entry};
+ghost use Rattle.delf_model.specs.State.{State, is_owned_by};
+ghost use Rattle.delf_model.specs.Step.{tag_of as tag_of_entry};
 ghost use Rattle.delf_model.specs.Graph.{is_touched as is_touched_in};
-ghost use Rattle.delf_model.specs.Legal.{is_legal as is_legal_entry, is_allowed as is_allowed_entry, is_tag, is_numbered as is_numbered_entry, may_expire as may_expire_object, greatest_moment};
+ghost use Rattle.delf_model.specs.Legal.{is_legal as is_legal_entry, is_allowed as is_allowed_entry, is_tag, is_numbered as is_numbered_entry, may_expire as may_expire_object};
+ghost use Rattle.delf_model.specs.Room.{greatest_moment};
 ghost use Rattle.job_table.specs.Table.{IsTableOf, IsGraphOf};
 
 use delf_model::{EdgeKey, Entry, GraphStore, Job, Moment, ObjectId, Rules, Tag, What};

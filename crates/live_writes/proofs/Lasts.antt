@@ -8,8 +8,11 @@ use Rattle.delf_model.specs.declared.entry.What.TheVariants.{Create, Update, Lin
 use Rattle.delf_model.specs.declared.ids.JobName.{JobName}
 use Rattle.delf_model.specs.declared.ids.JobName.TheVariants.{Named, Expiry}
 use Rattle.delf_model.specs.RuleSet.{RuleSet}
-use Rattle.delf_model.specs.State.{State, JobRow, start, after, job_row, starts_at, jobs_after, started_job, unlink_start, new_job, restored_at, erased_at, purged_if}
-use Rattle.delf_model.specs.Legal.{Legal, greatest_moment}
+use Rattle.delf_model.specs.State.{State, JobRow, start, job_row, starts_at}
+use Rattle.delf_model.specs.Step.{after, jobs_after, started_job, new_job, row_restored_at, erased_at, purged_if}
+use Rattle.delf_model.specs.Owners.{unlink_start}
+use Rattle.delf_model.specs.Legal.{Legal}
+use Rattle.delf_model.specs.Room.{greatest_moment}
 use Rattle.delf_model.proofs.Runs.{good_run}
 use Rattle.delf_model.proofs.Lines.{moment_within}
 use Rattle.job_table.specs.Table.{Table, IsTableOf, last_erasure, last_of_row}
@@ -31,7 +34,7 @@ each_map : (f : JobRow → JobRow) (xs : List JobRow) → ((row : JobRow) → La
 each_map f [] keeps each = tt
 each_map f (x ∷ xs) keeps each = (keeps x each.0, each_map f xs keeps each.1)
 
-keeps_restored : (job position : ℕ) (row : JobRow) → LastWithin row.last → LastWithin (restored_at job position row).last
+keeps_restored : (job position : ℕ) (row : JobRow) → LastWithin row.last → LastWithin (row_restored_at job position row).last
 keeps_restored job position row within = go (nat_eq row.start job)
   where
     go : (b : Bool) → LastWithin (cond b (record row { restored = Some position }) row).last
@@ -63,7 +66,7 @@ jobs_within s moment (Link tag edge from to size) early each = each
 jobs_within s moment (Unlink tag edge from to name) early each =
     each_append s.jobs (started_job s.len (unlink_start s edge from to name)) each (started_within s.len (unlink_start s edge from to name))
 jobs_within s moment (Delete tag id name) early each = each_append s.jobs (new_job s.len id (Named name) ∷ []) each (tt, tt)
-jobs_within s moment (Restore tag job) early each = each_map (restored_at job s.len) s.jobs (keeps_restored job s.len) each
+jobs_within s moment (Restore tag job) early each = each_map (row_restored_at job s.len) s.jobs (keeps_restored job s.len) each
 jobs_within s moment (Expire id) early each = each_append s.jobs (new_job s.len id (Expiry id) ∷ []) each (tt, tt)
 jobs_within s moment (Cut job edge from to) early each = each_map (erased_at job moment) s.jobs (λ row. keeps_erased job moment row early) each
 jobs_within s moment (Erase job id) early each = each_map (erased_at job moment) s.jobs (λ row. keeps_erased job moment row early) each

@@ -12,8 +12,11 @@ use Rattle.delf_model.specs.declared.entry.Tag.{Tag}
 use Rattle.delf_model.specs.declared.entry.What.TheVariants.{Restore}
 use Rattle.delf_model.specs.declared.ids.JobName.{JobName}
 use Rattle.delf_model.specs.RuleSet.{RuleSet}
-use Rattle.delf_model.specs.State.{State, JobRow, Logged, Handled, owned, left, job_row, find_job, last_of, same_name, job_of, is_object_item, is_restored, is_restored_row, step, after, restored_at}
-use Rattle.delf_model.specs.Legal.{owed, no_job, pending, restored_before, restored_by, window_over, window_end, last_erasure_or_zero}
+use Rattle.delf_model.specs.State.{State, JobRow, Logged, Handled, owned, left, job_row, find_job, last_of, same_name, job_of, is_object_item, is_restored, is_restored_row}
+use Rattle.delf_model.specs.Step.{step, after, row_restored_at}
+use Rattle.delf_model.specs.Room.{owed}
+use Rattle.delf_model.specs.Reply.{no_job, pending, restored_before, restored_by, window_over, window_end}
+use Rattle.delf_model.specs.State.{last_erasure_or_zero}
 use Rattle.delf_model.specs.Report.{status_of_row, status_or_none, erased_count, cut_count, put_count, listed_count, is_object_of, is_edge_of}
 use Rattle.delf_model.specs.Report.{status as status_of}
 use Rattle.delf_model.proofs.Good.{good_after}
@@ -215,12 +218,12 @@ restored_owed s m job tag row k idle each =
     omega (
       arith,
       (restore_same s k).weight owes,
-      owed_jobs-same (restored_at job s.len) s.jobs (restored_purged job s.len),
-      owed_items-restored s.jobs (map (restored_at job s.len) s.jobs) job s.items (λ other. is_restored-restored job s.len other row s.jobs idle.found) idle.unrestored,
+      owed_jobs-same (row_restored_at job s.len) s.jobs (restored_purged job s.len),
+      owed_items-restored s.jobs (map (row_restored_at job s.len) s.jobs) job s.items (λ other. is_restored-restored job s.len other row s.jobs idle.found) idle.unrestored,
       weights s.jobs job s.items idle.unrestored each,
     )
   where
-    restored_purged : (other position : ℕ) (r : JobRow) → (restored_at other position r).purged ≡ r.purged
+    restored_purged : (other position : ℕ) (r : JobRow) → (row_restored_at other position r).purged ≡ r.purged
     restored_purged other position r = go (nat_eq r.start other)
       where
         go : (b : Bool) → (cond b (record r { restored = Some position }) r).purged ≡ r.purged

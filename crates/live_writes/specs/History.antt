@@ -3,9 +3,12 @@ use Rattle.std.specs.Prelude.{ℕ, ◌+◌, Bool, List, [], ◌∷◌, Option}
 use Rattle.delf_model.specs.declared.entry.Entry.{Entry}
 use Rattle.delf_model.specs.RuleSet.{RuleSet}
 use Rattle.delf_model.specs.Graph.{Graph}
-use Rattle.delf_model.specs.State.{State, after}
+use Rattle.delf_model.specs.State.{State}
+use Rattle.delf_model.specs.Step.{after}
 use Rattle.delf_model.specs.declared.call.Refusal.{Refusal}
-use Rattle.delf_model.specs.Legal.{Legal, absent, condemned, last_erasure_or_zero}
+use Rattle.delf_model.specs.Legal.{Legal}
+use Rattle.delf_model.specs.Reply.{absent, condemned}
+use Rattle.delf_model.specs.State.{last_erasure_or_zero}
 use Rattle.job_table.specs.Table.{Table, IsTableOf, IsGraphOf, last_erasure}
 
 -- table, graph and rules are those of one history

@@ -1,6 +1,6 @@
 ghost use Rattle.std.specs.Prelude.{◌≡◌};
 ghost use Rattle.delf_model.specs.State.{State};
-ghost use Rattle.delf_model.specs.Legal.{reply_at};
+ghost use Rattle.delf_model.specs.Reply.{reply_at};
 ghost use Rattle.job_table.specs.Table.{IsTableOf, IsGraphOf};
 ghost use Rattle.live_writes.specs.History.{AreOfOneHistory};
 

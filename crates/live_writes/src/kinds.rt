@@ -3,7 +3,7 @@ ghost use Rattle.std.specs.Prelude.{◌≡◌, ◌≤◌, ℕ, Bool, None};
 ghost use Rattle.delf_model.specs.declared.entry.What.{What};
 ghost use Rattle.delf_model.specs.declared.entry.Tag.{Tag};
 ghost use Rattle.delf_model.specs.State.{State};
-ghost use Rattle.delf_model.specs.Legal.{refused, first_refusal};
+ghost use Rattle.delf_model.specs.Reply.{refused, first_refusal};
 ghost use Rattle.delf_model.specs.RuleSet.{RuleSet};
 ghost use Rattle.live_writes.specs.History.{ends_refusals};
 ghost use Rattle.job_table.specs.Table.{IsTableOf, IsGraphOf};

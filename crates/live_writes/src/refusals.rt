@@ -2,11 +2,13 @@
 ghost use Rattle.std.specs.Prelude.{◌≡◌, ◌+◌, ◌<◌, ◌^◌, ℕ, Bool};
 ghost use Rattle.delf_model.specs.declared.entry.What.{What};
 ghost use Rattle.delf_model.specs.RuleSet.{RuleSet};
-ghost use Rattle.delf_model.specs.State.{State, step};
-ghost use Rattle.delf_model.specs.State.{unlink_start};
+ghost use Rattle.delf_model.specs.State.{State};
+ghost use Rattle.delf_model.specs.Step.{step};
+ghost use Rattle.delf_model.specs.Owners.{unlink_start};
 ghost use Rattle.std.specs.Prelude.{slice_get, is_some, true, Some};
 ghost use Rattle.delf_model.specs.Graph.{edge_stands, object_at};
-ghost use Rattle.delf_model.specs.Legal.{owed, too_long as is_too_long, absent as is_absent, condemned as is_condemned, wrong_source as has_wrong_source, wrong_target as has_wrong_target, kind_differs as is_other_kind, name_taken as is_name_taken, edge_taken as is_edge_taken, no_edge as has_no_edge, not_direct as is_not_direct, not_direct_rule as is_not_direct_rule, is_direct as may_be_root, job_taken as is_job_taken, full as is_full};
+ghost use Rattle.delf_model.specs.Room.{owed};
+ghost use Rattle.delf_model.specs.Reply.{too_long as is_too_long, absent as is_absent, condemned as is_condemned, wrong_source as has_wrong_source, wrong_target as has_wrong_target, kind_differs as is_other_kind, name_taken as is_name_taken, edge_taken as is_edge_taken, no_edge as has_no_edge, not_direct as is_not_direct, not_direct_rule as is_not_direct_rule, is_direct as may_be_root, job_taken as is_job_taken, full as is_full};
 ghost use Rattle.job_table.specs.Table.{IsTableOf, IsGraphOf};
 
 use delf_model::{

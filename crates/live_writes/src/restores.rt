@@ -5,7 +5,7 @@ ghost use Rattle.delf_model.specs.declared.entry.Tag.{Tag};
 ghost use Rattle.delf_model.specs.RuleSet.{RuleSet};
 ghost use Rattle.delf_model.specs.Graph.{Graph};
 ghost use Rattle.delf_model.specs.State.{State, find_job, job_row, owned, is_restored};
-ghost use Rattle.delf_model.specs.Legal.{refused, window_over, pending, restored_before};
+ghost use Rattle.delf_model.specs.Reply.{refused, window_over, pending, restored_before};
 ghost use Rattle.job_table.specs.Table.{IsTableOf};
 ghost use Rattle.live_writes.specs.History.{IsTableOfHistory, end_of_window};
 

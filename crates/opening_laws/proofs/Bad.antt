@@ -11,7 +11,8 @@ use Rattle.gate_log.specs.Logs.{Log}
 use Rattle.gate_log.specs.Opening.{Fits, IsUnfit, IsForeign}
 use Rattle.delf_model.specs.declared.entry.Entry.{Entry}
 use Rattle.delf_model.specs.RuleSet.{RuleSet}
-use Rattle.delf_model.specs.State.{State, Logged, start, step, run, after}
+use Rattle.delf_model.specs.State.{State, Logged, start}
+use Rattle.delf_model.specs.Step.{step, run, after}
 use Rattle.entry_codec.proofs.Entries.{one_entry}
 use Rattle.store_laws.specs.Logged.{held, IsLog, IsArea}
 use Rattle.store_laws.specs.Stores.{journal_mark, vault_mark}

@@ -9,7 +9,7 @@ use Rattle.gate_log.specs.Logs.{Log}
 use Rattle.gate_log.specs.Steps.{MayDrop, Drops}
 use Rattle.delf_model.specs.declared.entry.Entry.{Entry}
 use Rattle.delf_model.specs.RuleSet.{RuleSet}
-use Rattle.delf_model.specs.State.{after}
+use Rattle.delf_model.specs.Step.{after}
 use Rattle.delf_model.specs.Legal.{Legal}
 use Rattle.delf_model.specs.Payloads.{Payloads}
 use Rattle.store_laws.specs.Logged.{held, IsLog}

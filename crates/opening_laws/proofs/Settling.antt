@@ -10,7 +10,7 @@ use Rattle.gate_log.specs.Logs.{Log}
 use Rattle.gate_log.specs.Steps.{MaySettle, Settles}
 use Rattle.delf_model.specs.declared.entry.Entry.{Entry}
 use Rattle.delf_model.specs.RuleSet.{RuleSet}
-use Rattle.delf_model.specs.State.{after}
+use Rattle.delf_model.specs.Step.{after}
 use Rattle.delf_model.specs.Payloads.{Payloads}
 use Rattle.store_laws.specs.Logged.{held, IsLog, behind, are_zeros}
 use Rattle.store_laws.specs.Stores.{Hold, Rest, Spell, Clean, Settled, AreScrubbed, journal_mark, vault_mark, journal_of, vault_of}

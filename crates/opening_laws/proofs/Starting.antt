@@ -11,7 +11,7 @@ use Rattle.gate_log.specs.Logs.{records}
 use Rattle.gate_log.specs.Opening.{Starts}
 use Rattle.delf_model.specs.declared.entry.Entry.{Entry}
 use Rattle.delf_model.specs.RuleSet.{RuleSet}
-use Rattle.delf_model.specs.State.{after}
+use Rattle.delf_model.specs.Step.{after}
 use Rattle.delf_model.specs.Payloads.{Payloads, no_payloads}
 use Rattle.store_laws.specs.Logged.{held, IsLog, IsArea}
 use Rattle.store_laws.specs.Stores.{Hold, StandBut, journal_mark, vault_mark, journal_of, vault_of, vault_for}

@@ -7,7 +7,8 @@ use Rattle.delf_model.specs.declared.entry.Entry.{Entry}
 use Rattle.delf_model.specs.declared.entry.What.{What}
 use Rattle.delf_model.specs.declared.entry.What.TheVariants.{Create, Update, Link, Unlink, Delete, Restore, Expire, Cut, Erase, Put, Purge}
 use Rattle.delf_model.specs.RuleSet.{RuleSet}
-use Rattle.delf_model.specs.State.{State, start, step, after}
+use Rattle.delf_model.specs.State.{State, start}
+use Rattle.delf_model.specs.Step.{step, after}
 use Rattle.delf_model.specs.Payloads.{Payloads, payload_at, is_needed, bytes_of_pair}
 use Rattle.entry_codec.specs.EntryHead.{entry_head, named_size, HasPayload, IsEntry, AreEntries}
 use Rattle.entry_codec.specs.declared.limits.TheConstants.{LARGEST_PAYLOAD}

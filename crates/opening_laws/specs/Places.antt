@@ -10,7 +10,8 @@ use Rattle.entry_codec.specs.EntryHead.{IsEntryHead}
 use Rattle.entry_codec.specs.ItemHead.{IsItemHead}
 use Rattle.delf_model.specs.declared.entry.Entry.{Entry}
 use Rattle.delf_model.specs.RuleSet.{RuleSet}
-use Rattle.delf_model.specs.State.{State, Logged, start, step, after}
+use Rattle.delf_model.specs.State.{State, Logged, start}
+use Rattle.delf_model.specs.Step.{step, after}
 use Rattle.delf_model.specs.Legal.{is_legal}
 use Rattle.payload_laws.specs.Holders.{record_size}
 use Rattle.store_laws.specs.Logged.{held, IsArea}

@@ -13,7 +13,7 @@ ghost use Rattle.gate_log.specs.Steps.{MayDrop, Drops, MaySettle, Settles};
 ghost use Rattle.entry_codec.specs.EntryHead.{AreEntries};
 ghost use Rattle.delf_model.specs.declared.entry.Entry.{Entry};
 ghost use Rattle.delf_model.specs.RuleSet.{RuleSet};
-ghost use Rattle.delf_model.specs.State.{after};
+ghost use Rattle.delf_model.specs.Step.{after};
 ghost use Rattle.delf_model.specs.Legal.{Legal};
 ghost use Rattle.delf_model.specs.Payloads.{Payloads, no_payloads};
 ghost use Rattle.store_laws.specs.Logged.{IsLog, behind, are_zeros};

@@ -15,8 +15,12 @@ use Rattle.delf_model.specs.declared.entry.What.{What}
 use Rattle.delf_model.specs.declared.entry.What.TheVariants.{Create, Update, Link, Unlink, Delete, Restore, Expire, Cut, Erase, Put, Purge}
 use Rattle.delf_model.specs.RuleSet.{RuleSet}
 use Rattle.delf_model.specs.Graph.{Graph, has_id, has_key, object_at, edge_at, edge_stands, same_key, touches, touches_row, is_touched, out_edges, in_edges, leaves_from, leads_to}
-use Rattle.delf_model.specs.State.{State, Logged, Handled, JobRow, Owners, after, owner, owner_in, owns_of, owner_of_pair, owned, is_pair_of, is_owned_by, is_job, job_row, starts_at, key_of, job_of, is_restored, is_restored_row, is_open, is_open_of, left, first_of_two}
-use Rattle.delf_model.specs.Legal.{is_legal, is_allowed, Legal, greatest_moment, is_due_row, may_put, may_purge, may_expire, is_end_item, is_handled_end, end_handled, ends_handled}
+use Rattle.delf_model.specs.State.{State, Logged, Handled, JobRow, Owners, owner, owner_in, owns_of, owner_of_pair, owned, is_pair_of, is_owned_by, is_job, job_row, starts_at, job_of, is_restored, is_restored_row, is_open, is_open_of, left}
+use Rattle.delf_model.specs.Step.{after}
+use Rattle.delf_model.specs.Owners.{key_of}
+use Rattle.std.specs.Option.{option_or}
+use Rattle.delf_model.specs.Legal.{is_legal, is_allowed, Legal, is_due_row, may_put, may_purge, may_expire, is_end_item, is_handled_end, end_handled, ends_handled}
+use Rattle.delf_model.specs.Room.{greatest_moment}
 use Rattle.delf_model.specs.Order.{is_step, is_legal_step, is_restoring, is_oldest_restoring, is_no_older, is_restored_by, last_place, put_of, put_of_job, first_put, owns_some, cut_or_erase, erasure_of_pair, erasure_of_job, first_erasure, expires, expiry_of, first_expiry, purges, purge_of, first_purge, first_step}
 use Rattle.delf_model.specs.Sound.{FirstIsLegal}
 use Rattle.delf_model.proofs.Graphs.{same_key_refl}
@@ -190,7 +194,7 @@ none_open job id birth jobs n (x ∷ xs) restored none =
     by_here true is here = absurd (cc here)
     by_here false is here = refl
 
-    by_later : (o : Option ℕ) → last_place (is_open_of job jobs) (n + 1) xs ≡ o → first_of_two o (cond (is_open_of job jobs x) (Some n) None) ≡ None →
+    by_later : (o : Option ℕ) → last_place (is_open_of job jobs) (n + 1) xs ≡ o → option_or o (cond (is_open_of job jobs x) (Some n) None) ≡ None →
         (last_place (is_open_of job jobs) (n + 1) xs ≡ None → list_all (is_handled_end job id birth) xs ≡ true) → list_all (is_handled_end job id birth) (x ∷ xs) ≡ true
     by_later (Some i) is here IH = absurd (cc here)
     by_later None is here IH =
@@ -279,7 +283,7 @@ last_open job jobs n i (x ∷ xs) restored apart found = by_later (last_place (i
         first_is : n ≡ i → i ≡ n + 0
         first_is same = omega arith
 
-    by_later : (o : Option ℕ) → last_place (is_open_of job jobs) (n + 1) xs ≡ o → first_of_two o (cond (is_open_of job jobs x) (Some n) None) ≡ Some i →
+    by_later : (o : Option ℕ) → last_place (is_open_of job jobs) (n + 1) xs ≡ o → option_or o (cond (is_open_of job jobs x) (Some n) None) ≡ Some i →
         (last_place (is_open_of job jobs) (n + 1) xs ≡ Some i → (k : ℕ) × (i ≡ n + 1 + k) × LastOpen job jobs xs k) → Result
     by_later None is at IH = here (is_open_of job jobs x) refl is at
     by_later (Some j) is at IH = later (IH (is ∙ at))
@@ -436,7 +440,7 @@ purge_found s moment ordered what found = by_row (find (purges s moment) s.jobs)
 
 -- where there is no step
 
-none_left : {A : Type 0} (a b : Option A) → first_of_two a b ≡ None → (a ≡ None) × (b ≡ None)
+none_left : {A : Type 0} (a b : Option A) → option_or a b ≡ None → (a ≡ None) × (b ≡ None)
 none_left None b none = (refl, none)
 none_left (Some x) b none = absurd (cc none)
 
@@ -648,7 +652,7 @@ allowed_part s moment what is =
     let parts = and_parts (is_step what) (is_legal s (record { moment = moment; what = what })) is in
     (parts.0, (and_parts _ (is_allowed s moment what) parts.1).1)
 
-first_cases : {A : Type 0} (a b : Option A) (x : A) → first_of_two a b ≡ Some x → (a ≡ Some x) ⊎ (b ≡ Some x)
+first_cases : {A : Type 0} (a b : Option A) (x : A) → option_or a b ≡ Some x → (a ≡ Some x) ⊎ (b ≡ Some x)
 first_cases None b x is = inr is
 first_cases (Some y) b x is = inl is
 

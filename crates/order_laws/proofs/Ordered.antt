@@ -17,7 +17,11 @@ use Rattle.delf_model.specs.declared.entry.What.{What}
 use Rattle.delf_model.specs.declared.entry.What.TheVariants.{Create, Update, Link, Unlink, Delete, Restore, Expire, Cut, Erase, Put, Purge}
 use Rattle.delf_model.specs.RuleSet.{RuleSet}
 use Rattle.delf_model.specs.Graph.{Graph, Change, PutsObject, has_id, has_key, object_at, edge_at, edge_stands, stands, is_born_at, objects_rise, rises_after, put_object, rewritten, is_other_object, changed}
-use Rattle.delf_model.specs.State.{State, Logged, Handled, JobRow, Owners, start, step, run, after, owner, owner_in, owns_of, is_owned_by, graph_after, job_row, starts_at, jobs_after, items_after, new_job, started_job, restored_at, purged_if, erased_at, unlink_start, key_of, edge_item, object_item, unhandled, handled_at, outcome, judged, put_change, put_unless, job_of, is_restored, birth_of, birth_of_row, first_of_two, owned_row, next_owner, owners_after, root_of_start, start_of}
+use Rattle.delf_model.specs.State.{State, Logged, Handled, JobRow, Owners, start, owner, owner_in, owns_of, is_owned_by, job_row, starts_at, job_of, is_restored}
+use Rattle.delf_model.specs.Step.{step, run, after, graph_after, jobs_after, items_after, new_job, started_job, row_restored_at, purged_if, erased_at, edge_item, object_item, unhandled, handled_at, outcome, put_change, put_unless, birth_of, birth_of_row}
+use Rattle.delf_model.specs.Owners.{unlink_start, key_of, owned_row, next_owner, owners_after, root_of_start, start_of}
+use Rattle.delf_model.specs.Puts.{judged}
+use Rattle.std.specs.Option.{option_or}
 use Rattle.delf_model.specs.Legal.{is_legal, is_legal_from, is_allowed, Legal, is_end_item}
 use Rattle.delf_model.proofs.Runs.{good_run}
 use Rattle.delf_model.proofs.Lines.{allowed_of}
@@ -174,7 +178,7 @@ starts_more : (len : ℕ) (xs : List JobRow) → StartsRising len xs → StartsR
 starts_more len [] rises = tt
 starts_more len (x ∷ xs) rises = (omega (arith, rises.0), rises.1, starts_more len xs rises.2)
 
-restored_start : (job position : ℕ) (row : JobRow) → (restored_at job position row).start ≡ row.start
+restored_start : (job position : ℕ) (row : JobRow) → (row_restored_at job position row).start ≡ row.start
 restored_start job position row = by_hit (eqb row.start job)
   where
     by_hit : (b : Bool) → (cond b (record row { restored = Some position }) row).start ≡ row.start
@@ -201,7 +205,7 @@ starts_step s moment (Update tag id size) rises = starts_more s.len s.jobs rises
 starts_step s moment (Link tag edge from to size) rises = starts_more s.len s.jobs rises
 starts_step s moment (Unlink tag edge from to name) rises = starts_grow s.len s.jobs (unlink_start s edge from to name) rises
 starts_step s moment (Delete tag id name) rises = starts_grow s.len s.jobs (Some (id, Named name)) rises
-starts_step s moment (Restore tag which) rises = starts_map s.len (restored_at which s.len) s.jobs (restored_start which s.len) rises
+starts_step s moment (Restore tag which) rises = starts_map s.len (row_restored_at which s.len) s.jobs (restored_start which s.len) rises
 starts_step s moment (Expire id) rises = starts_grow s.len s.jobs (Some (id, Expiry id)) rises
 starts_step s moment (Cut which edge from to) rises = starts_map s.len (erased_at which moment) s.jobs (erased_start which moment) rises
 starts_step s moment (Erase which id) rises = starts_map s.len (erased_at which moment) s.jobs (erased_start which moment) rises
@@ -351,11 +355,11 @@ apart_step s moment (Purge which) good line apart = apart
 abbrev pub OwnersHaveJobs : State → Type 0
 OwnersHaveJobs s = (id job : ℕ) → owner s id ≡ Some job → is_some (job_row s.jobs job) ≡ true
 
-some_over : {A : Type 0} (o p : Option A) → is_some o ≡ true → is_some (first_of_two o p) ≡ true
+some_over : {A : Type 0} (o p : Option A) → is_some o ≡ true → is_some (option_or o p) ≡ true
 some_over None p some = absurd (false≢true some)
 some_over (Some x) p some = refl
 
-some_under : {A : Type 0} (o p : Option A) → is_some p ≡ true → is_some (first_of_two o p) ≡ true
+some_under : {A : Type 0} (o p : Option A) → is_some p ≡ true → is_some (option_or o p) ≡ true
 some_under None p some = some
 some_under (Some x) p some = refl
 
@@ -378,7 +382,7 @@ jobs_stay s moment (Update tag id size) job some = some
 jobs_stay s moment (Link tag edge from to size) job some = some
 jobs_stay s moment (Unlink tag edge from to name) job some = grown_stays s.jobs s.len (unlink_start s edge from to name) job some
 jobs_stay s moment (Delete tag id name) job some = grown_stays s.jobs s.len (Some (id, Named name)) job some
-jobs_stay s moment (Restore tag which) job some = ap (λ (r : Option JobRow). is_some r) (job_row-restored s.jobs which s.len job) ∙ (map_some (restored_at which s.len) (job_row s.jobs job) ∙ some)
+jobs_stay s moment (Restore tag which) job some = ap (λ (r : Option JobRow). is_some r) (job_row-restored s.jobs which s.len job) ∙ (map_some (row_restored_at which s.len) (job_row s.jobs job) ∙ some)
 jobs_stay s moment (Expire id) job some = grown_stays s.jobs s.len (Some (id, Expiry id)) job some
 jobs_stay s moment (Cut which edge from to) job some = ap (λ (r : Option JobRow). is_some r) (job_row-erased s.jobs which moment job) ∙ (map_some (erased_at which moment) (job_row s.jobs job) ∙ some)
 jobs_stay s moment (Erase which id) job some = ap (λ (r : Option JobRow). is_some r) (job_row-erased s.jobs which moment job) ∙ (map_some (erased_at which moment) (job_row s.jobs job) ∙ some)

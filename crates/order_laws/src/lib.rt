@@ -5,8 +5,9 @@ ghost use Rattle.std.specs.Prelude.{◌≤◌, ℕ, List, IsTrue};
 ghost use Rattle.delf_model.specs.declared.entry.Entry.{Entry};
 ghost use Rattle.delf_model.specs.RuleSet.{RuleSet};
 ghost use Rattle.delf_model.specs.Graph.{objects_rise};
-ghost use Rattle.delf_model.specs.State.{after};
-ghost use Rattle.delf_model.specs.Legal.{Legal, greatest_moment};
+ghost use Rattle.delf_model.specs.Step.{after};
+ghost use Rattle.delf_model.specs.Legal.{Legal};
+ghost use Rattle.delf_model.specs.Room.{greatest_moment};
 ghost use Rattle.delf_model.specs.Sound.{FirstIsLegal};
 
 /// The first step of the serial order is legal where there is one, and where there is none no step is legal, at every

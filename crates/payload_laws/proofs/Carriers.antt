@@ -3,7 +3,8 @@ use Rattle.std.proofs.Common.{◌≡◌, ℕ, zero, suc, ◌+◌, ◌≤◌, Boo
 use Rattle.std.proofs.lemmas.Bool.{eqb-true, eqb-false, false≢true}
 use Rattle.std.specs.Prelude.{slice_get, is_none}
 use Rattle.delf_model.specs.declared.call.Cause.{Cause}
-use Rattle.delf_model.specs.State.{State, Logged, Handled, position_of, first_of_two}
+use Rattle.delf_model.specs.State.{State, Logged, Handled, position_of}
+use Rattle.std.specs.Option.{option_or}
 use Rattle.delf_model.specs.Order.{last_place}
 use Rattle.delf_model.specs.Report.{was_put}
 use Rattle.delf_model.specs.Payloads.{Journal, Vault, holds_position, carrier_of_item, handled_of, carrier_by, last_carrier}
@@ -30,7 +31,7 @@ last_case p k (x ∷ xs) =
           inr (
             suc some.0,
             record { logged = some.1.logged; there = some.1.there; holds = some.1.holds; last = λ j y at holds. later some.0 some.1 j y at holds },
-            ap (λ (o : Option ℕ). first_of_two o (cond (eqb (position_of x.item) p) (Some k) None)) some.2 ∙ ap (λ (n : ℕ). Some n) (moved k some.0),
+            ap (λ (o : Option ℕ). option_or o (cond (eqb (position_of x.item) p) (Some k) None)) some.2 ∙ ap (λ (n : ℕ). Some n) (moved k some.0),
           )
     ]
   where
@@ -58,13 +59,13 @@ last_case p k (x ∷ xs) =
         inr (
           0,
           record { logged = x; there = refl; holds = eqb-true (position_of x.item) p is; last = λ j y at holds. at_first none.0 j y at holds },
-          ap (λ (o : Option ℕ). first_of_two o (cond (eqb (position_of x.item) p) (Some k) None)) none.1 ∙
+          ap (λ (o : Option ℕ). option_or o (cond (eqb (position_of x.item) p) (Some k) None)) none.1 ∙
               (ap (λ (b : Bool). cond b (Some k) None) is ∙ ap (λ (n : ℕ). Some n) (no_zero k)),
         )
     first_or_none false is none =
         inl (
           nowhere (eqb-false (position_of x.item) p is) none.0,
-          ap (λ (o : Option ℕ). first_of_two o (cond (eqb (position_of x.item) p) (Some k) None)) none.1 ∙ ap (λ (b : Bool). cond b (Some k) None) is,
+          ap (λ (o : Option ℕ). option_or o (cond (eqb (position_of x.item) p) (Some k) None)) none.1 ∙ ap (λ (b : Bool). cond b (Some k) None) is,
         )
 
 pub last_same : (p : ℕ) (xs : List Logged) (i j : ℕ) → HeldLast p xs i → HeldLast p xs j → i ≡ j

@@ -11,8 +11,13 @@ use Rattle.delf_model.specs.declared.call.Refusal.TheVariants.{WindowOver}
 use Rattle.delf_model.specs.declared.entry.What.{What}
 use Rattle.delf_model.specs.declared.entry.What.TheVariants.{Unlink, Delete, Restore, Expire, Cut, Erase, Put, Purge}
 use Rattle.delf_model.specs.Graph.{has_id, has_key, object_at, edge_at, edge_stands, is_touched}
-use Rattle.delf_model.specs.State.{State, Logged, Handled, JobRow, items_after, jobs_after, key_of, edge_item, object_item, handled_at, outcome, judged, position_of, size_of, job_of, job_row, starts_at, is_restored, is_open, left, owned, is_owned_by, unlink_start, started_job, new_job, restored_at, purged_if, erased_at, first_of_two}
-use Rattle.delf_model.specs.Legal.{is_allowed, refusals, may_purge, is_named_so, window_over, window_end, window_passed}
+use Rattle.delf_model.specs.State.{State, Logged, Handled, JobRow, position_of, size_of, job_of, job_row, starts_at, is_restored, is_open, left, owned, is_owned_by}
+use Rattle.delf_model.specs.Step.{items_after, jobs_after, edge_item, object_item, handled_at, outcome, started_job, new_job, row_restored_at, purged_if, erased_at}
+use Rattle.delf_model.specs.Owners.{key_of, unlink_start}
+use Rattle.delf_model.specs.Puts.{judged}
+use Rattle.std.specs.Option.{option_or}
+use Rattle.delf_model.specs.Legal.{is_allowed, may_purge, is_named_so, window_passed}
+use Rattle.delf_model.specs.Reply.{refusals, window_over, window_end}
 use Rattle.delf_model.specs.Payloads.{is_purged, is_purged_row, position_of_edge, position_of_object}
 use Rattle.delf_model.proofs.Lines.{none_of}
 use Rattle.delf_model.proofs.Leaves.{owner_is}
@@ -206,7 +211,7 @@ started_unpurged start (Some pair) job = by_hit (eqb start job)
     by_hit true = refl
     by_hit false = refl
 
-over_unpurged : (o p : Option JobRow) → is_purged_row p ≡ false → is_purged_row (first_of_two o p) ≡ is_purged_row o
+over_unpurged : (o p : Option JobRow) → is_purged_row p ≡ false → is_purged_row (option_or o p) ≡ is_purged_row o
 over_unpurged None p none = none
 over_unpurged (Some row) p none = refl
 
@@ -214,7 +219,7 @@ grown_same : (jobs : List JobRow) (start : ℕ) (o : Option (ℕ × JobName)) (j
 grown_same jobs start o job =
     ap is_purged_row (job_row-started jobs start o job) ∙ over_unpurged (job_row jobs job) (job_row (started_job start o) job) (started_unpurged start o job)
 
-restored_purged : (other position : ℕ) (o : Option JobRow) → is_purged_row (option_map (restored_at other position) o) ≡ is_purged_row o
+restored_purged : (other position : ℕ) (o : Option JobRow) → is_purged_row (option_map (row_restored_at other position) o) ≡ is_purged_row o
 restored_purged other position None = refl
 restored_purged other position (Some row) = by_hit (eqb row.start other)
   where

@@ -12,7 +12,10 @@ use Rattle.delf_model.specs.declared.entry.What.{What}
 use Rattle.delf_model.specs.declared.entry.What.TheVariants.{Update, Unlink, Cut, Erase, Put, Purge}
 use Rattle.delf_model.specs.RuleSet.{RuleSet}
 use Rattle.delf_model.specs.Graph.{has_id, has_key, object_at, edge_at, same_key}
-use Rattle.delf_model.specs.State.{State, Logged, step, after, key_of, judged, position_of, size_of, job_of}
+use Rattle.delf_model.specs.State.{State, Logged, position_of, size_of, job_of}
+use Rattle.delf_model.specs.Step.{step, after}
+use Rattle.delf_model.specs.Owners.{key_of}
+use Rattle.delf_model.specs.Puts.{judged}
 use Rattle.delf_model.specs.Legal.{is_legal, is_allowed, Legal}
 use Rattle.delf_model.specs.Report.{was_put}
 use Rattle.delf_model.specs.Payloads.{is_purged, keeps_payload, object_needs, edge_needs, item_needs, is_needed, Carrier, Journal, Vault, last_carrier}

@@ -8,7 +8,9 @@ use Rattle.delf_model.specs.declared.call.Cause.{Cause}
 use Rattle.delf_model.specs.declared.entry.Entry.{Entry}
 use Rattle.delf_model.specs.declared.entry.What.TheVariants.{Put}
 use Rattle.delf_model.specs.RuleSet.{RuleSet}
-use Rattle.delf_model.specs.State.{State, Logged, Handled, start, step, run, after, judged, position_of, size_of, job_of, is_restored, is_open, is_open_of, left}
+use Rattle.delf_model.specs.State.{State, Logged, Handled, start, position_of, size_of, job_of, is_restored, is_open, is_open_of, left}
+use Rattle.delf_model.specs.Step.{step, run, after}
+use Rattle.delf_model.specs.Puts.{judged}
 use Rattle.delf_model.specs.Legal.{is_legal, is_legal_from, is_allowed, Legal}
 use Rattle.delf_model.specs.Report.{was_put}
 use Rattle.delf_model.specs.Payloads.{is_purged}

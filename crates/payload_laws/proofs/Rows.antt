@@ -11,8 +11,13 @@ use Rattle.delf_model.specs.declared.call.Cause.{Cause}
 use Rattle.delf_model.specs.declared.entry.What.{What}
 use Rattle.delf_model.specs.declared.entry.What.TheVariants.{Create, Update, Link, Unlink, Delete, Restore, Expire, Cut, Erase, Put, Purge}
 use Rattle.delf_model.specs.Graph.{Graph, Change, Same, PutsObject, TakesObject, RewritesObject, PutsEdge, TakesEdge, changed, has_id, has_key, same_key, is_other_object, is_other_edge, rewritten, object_at, edge_at}
-use Rattle.delf_model.specs.State.{State, Logged, Handled, graph_after, change_of, key_of, judged, taken, end_cause, key_taken, first_of_two, put_change, put_unless, put_of_item, position_of, size_of, job_of, is_restored, is_open}
-use Rattle.delf_model.specs.Legal.{is_allowed, refusals}
+use Rattle.delf_model.specs.State.{State, Logged, Handled, position_of, size_of, job_of, is_restored, is_open}
+use Rattle.delf_model.specs.Step.{graph_after, change_of, put_change, put_unless, put_of_item}
+use Rattle.delf_model.specs.Owners.{key_of}
+use Rattle.delf_model.specs.Puts.{judged, taken, end_cause, key_taken}
+use Rattle.std.specs.Option.{option_or}
+use Rattle.delf_model.specs.Legal.{is_allowed}
+use Rattle.delf_model.specs.Reply.{refusals}
 use Rattle.delf_model.proofs.Graphs.{same_key_is, same_key_refl}
 use Rattle.delf_model.proofs.Lines.{none_of, name_free, key_free}
 use Rattle.delf_model.proofs.Places.{MayPut, may_put_of}
@@ -237,7 +242,7 @@ edge_free g key source p size none (ByObject row here is at sized) same = cc (sa
 edge_free g key source p size none (ByEdge row here is at sized) same =
     none_found (has_key key) g.edges row none here (ap (λ (k : EdgeKey). same_key row.key k) (edge_is (same ∙ is)) ∙ same_key_refl row.key)
 
-first_none : {A : Type 0} (a b : Option A) → first_of_two a b ≡ None → b ≡ None
+first_none : {A : Type 0} (a b : Option A) → option_or a b ≡ None → b ≡ None
 first_none None b none = none
 first_none (Some x) b none = absurd (cc none)
 
@@ -255,7 +260,7 @@ item_free s (item.Edge job row from_birth to_birth) source p size none held same
     edge_free s.graph row.key source p size
     (key_none (edge_at s.graph row.key)
     (first_none (end_cause s row.key.to to_birth) (key_taken (edge_at s.graph row.key))
-    (first_none (end_cause s row.key.from from_birth) (first_of_two (end_cause s row.key.to to_birth) (key_taken (edge_at s.graph row.key))) none))) held same
+    (first_none (end_cause s row.key.from from_birth) (option_or (end_cause s row.key.to to_birth) (key_taken (edge_at s.graph row.key))) none))) held same
 
 put_item_source : (it : Item) → put_source (put_of_item it) ≡ source_of_item it
 put_item_source (item.Object job row) = refl

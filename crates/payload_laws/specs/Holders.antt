@@ -8,7 +8,10 @@ use Rattle.delf_model.specs.declared.entry.What.{What}
 use Rattle.delf_model.specs.declared.entry.What.TheVariants.{Create, Update, Link, Unlink, Delete, Restore, Expire, Cut, Erase, Put, Purge}
 use Rattle.delf_model.specs.RuleSet.{RuleSet}
 use Rattle.delf_model.specs.Graph.{object_at, edge_at}
-use Rattle.delf_model.specs.State.{State, Logged, after, step, job_of, position_of, size_of, judged, key_of}
+use Rattle.delf_model.specs.State.{State, Logged, job_of, position_of, size_of}
+use Rattle.delf_model.specs.Step.{after, step}
+use Rattle.delf_model.specs.Puts.{judged}
+use Rattle.delf_model.specs.Owners.{key_of}
 use Rattle.delf_model.specs.Legal.{is_legal}
 use Rattle.delf_model.specs.Report.{was_put}
 use Rattle.delf_model.specs.Payloads.{is_needed, last_carrier, Carrier, Journal, Vault, position_of_object, position_of_edge}

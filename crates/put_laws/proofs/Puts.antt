@@ -13,7 +13,10 @@ use Rattle.delf_model.specs.declared.entry.What.{What}
 use Rattle.delf_model.specs.declared.entry.What.TheVariants.{Create, Update, Link, Unlink, Delete, Restore, Expire, Cut, Erase, Put, Purge}
 use Rattle.delf_model.specs.RuleSet.{RuleSet}
 use Rattle.delf_model.specs.Graph.{Graph, object_at, edge_at}
-use Rattle.delf_model.specs.State.{State, Logged, Handled, JobRow, start, step, run, after, key_of, items_after, edge_item, object_item, unhandled, handled_at, outcome, judged, job_of, is_restored, is_open, is_open_of, left, birth_of}
+use Rattle.delf_model.specs.State.{State, Logged, Handled, JobRow, start, job_of, is_restored, is_open, is_open_of, left}
+use Rattle.delf_model.specs.Step.{step, run, after, items_after, edge_item, object_item, unhandled, handled_at, outcome, birth_of}
+use Rattle.delf_model.specs.Owners.{key_of}
+use Rattle.delf_model.specs.Puts.{judged}
 use Rattle.delf_model.specs.Legal.{is_legal, is_legal_from, is_allowed, Legal}
 use Rattle.delf_model.specs.Sound.{HasOnePut, PutsAreJudged}
 use Rattle.delf_model.proofs.Runs.{legal_take, legal_drop, legal_at, run-take-drop, run-take_suc}

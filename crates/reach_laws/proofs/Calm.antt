@@ -16,7 +16,9 @@ use Rattle.delf_model.specs.declared.entry.What.{What}
 use Rattle.delf_model.specs.declared.entry.What.TheVariants.{Create, Update, Link, Unlink, Delete, Restore, Expire, Cut, Erase, Put, Purge}
 use Rattle.delf_model.specs.RuleSet.{RuleSet}
 use Rattle.delf_model.specs.Graph.{Graph, object_at, edge_at, edge_stands, has_refs}
-use Rattle.delf_model.specs.State.{State, Logged, Handled, JobRow, start, step, run, after, owner, owned, is_owned_by, is_job, job_row, job_of, items_after, edge_item, object_item, key_of, handled_at, outcome, unlink_start, root_of_start, start_of, birth_of, is_restored}
+use Rattle.delf_model.specs.State.{State, Logged, Handled, JobRow, start, owner, owned, is_owned_by, is_job, job_row, job_of, is_restored}
+use Rattle.delf_model.specs.Step.{step, run, after, items_after, edge_item, object_item, handled_at, outcome, birth_of}
+use Rattle.delf_model.specs.Owners.{key_of, unlink_start, root_of_start, start_of}
 use Rattle.delf_model.specs.Store.{EndsStand}
 use Rattle.delf_model.specs.Legal.{is_legal, is_legal_from, is_allowed, Legal}
 use Rattle.delf_model.specs.Closure.{has, Closure, Calm, LeavesAlone, names, is_step_of, erased_item, cut_item, has_erased, has_cut, root_of, root_of_row}

@@ -13,7 +13,8 @@ use Rattle.delf_model.specs.declared.entry.What.{What}
 use Rattle.delf_model.specs.declared.entry.What.TheVariants.{Cut, Erase}
 use Rattle.delf_model.specs.RuleSet.{RuleSet, is_deep, is_refcount}
 use Rattle.delf_model.specs.Graph.{Graph, TakesObject, changed, has_id, object_at, edge_at, edge_stands, stands, touches, is_touched, has_refs}
-use Rattle.delf_model.specs.State.{State, Logged, step, run, owner, is_owned_by, is_job, items_after, object_item, unhandled, job_of}
+use Rattle.delf_model.specs.State.{State, Logged, owner, is_owned_by, is_job, job_of}
+use Rattle.delf_model.specs.Step.{step, run, items_after, object_item, unhandled}
 use Rattle.delf_model.specs.Store.{EndsStand}
 use Rattle.delf_model.specs.Legal.{is_legal, is_legal_from, is_allowed}
 use Rattle.delf_model.specs.Closure.{has, IsClosed, Closure, erased_item, cut_item, has_erased, has_cut}

@@ -13,7 +13,9 @@ use Rattle.delf_model.specs.declared.entry.What.{What}
 use Rattle.delf_model.specs.declared.entry.What.TheVariants.{Cut, Erase}
 use Rattle.delf_model.specs.RuleSet.{RuleSet, is_deep, is_refcount}
 use Rattle.delf_model.specs.Graph.{Graph, TakesEdge, TakesObject, changed, has_id, has_key, same_key, object_at, edge_at, edge_stands, stands, is_born_at, touches, is_touched, has_refs, is_reference, is_other_edge}
-use Rattle.delf_model.specs.State.{State, Logged, step, owner, is_owned_by, is_job, graph_after, key_of, items_after, edge_item, object_item, unhandled, job_of, birth_of, birth_of_row, condemns}
+use Rattle.delf_model.specs.State.{State, Logged, owner, is_owned_by, is_job, job_of}
+use Rattle.delf_model.specs.Step.{step, graph_after, items_after, edge_item, object_item, unhandled, birth_of, birth_of_row}
+use Rattle.delf_model.specs.Owners.{key_of, condemns}
 use Rattle.delf_model.specs.Store.{EndsStand}
 use Rattle.delf_model.specs.Legal.{is_legal, is_allowed}
 use Rattle.delf_model.specs.Closure.{has, IsClosed, Closure, names, erased_item, cut_item, has_erased, has_cut}

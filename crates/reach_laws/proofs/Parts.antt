@@ -2,7 +2,8 @@
 use Rattle.std.proofs.Common.{◌≡◌, ℕ, zero, suc, ◌+◌, ◌≤◌, ◌<◌, List, [], ◌∷◌, ◌++◌, length, take, true, refl, sym, ap, ◌∙◌, arith}
 use Rattle.delf_model.specs.declared.entry.Entry.{Entry}
 use Rattle.delf_model.specs.RuleSet.{RuleSet}
-use Rattle.delf_model.specs.State.{State, start, step, run, after}
+use Rattle.delf_model.specs.State.{State, start}
+use Rattle.delf_model.specs.Step.{step, run, after}
 use Rattle.delf_model.specs.Legal.{Legal, is_legal, is_legal_from}
 use Rattle.delf_model.proofs.Runs.{after_push, Legal_push, legal_take}
 use Rattle.delf_model.proofs.Good.{good_at, owners_push}

@@ -15,7 +15,10 @@ use Rattle.delf_model.specs.declared.entry.Tag.{Tag}
 use Rattle.delf_model.specs.declared.entry.What.{What}
 use Rattle.delf_model.specs.declared.entry.What.TheVariants.{Create, Update, Link, Unlink, Delete, Restore, Expire, Cut, Erase, Put, Purge}
 use Rattle.delf_model.specs.Graph.{Graph, Change, PutsObject, TakesObject, RewritesObject, PutsEdge, TakesEdge, changed, has_id, has_key, same_key, object_at, edge_at, edge_stands, touches, rewritten}
-use Rattle.delf_model.specs.State.{State, Logged, Handled, step, owner, is_owned_by, graph_after, key_of, items_after, edge_item, object_item, handled_at, outcome, judged, put_change, put_unless, job_of, unlink_start, unhandled, birth_of, new_object, new_edge}
+use Rattle.delf_model.specs.State.{State, Logged, Handled, owner, is_owned_by, job_of}
+use Rattle.delf_model.specs.Step.{step, graph_after, items_after, edge_item, object_item, handled_at, outcome, put_change, put_unless, unhandled, birth_of, new_object, new_edge}
+use Rattle.delf_model.specs.Owners.{key_of, unlink_start}
+use Rattle.delf_model.specs.Puts.{judged}
 use Rattle.delf_model.specs.Legal.{is_legal, is_allowed}
 use Rattle.delf_model.specs.Closure.{has, names, item_names, logged_names, is_step_of, erased_item, cut_item, has_erased, has_cut}
 use Rattle.delf_model.proofs.Graphs.{find-put_object, find-filter_object, find-rewritten, find-put_edge, find-filter_edge, same_key_is}

@@ -16,7 +16,10 @@ use Rattle.delf_model.specs.declared.entry.What.{What}
 use Rattle.delf_model.specs.declared.entry.What.TheVariants.{Create, Update, Link, Unlink, Delete, Restore, Expire, Cut, Erase, Put, Purge}
 use Rattle.delf_model.specs.RuleSet.{RuleSet}
 use Rattle.delf_model.specs.Graph.{Graph, object_at, edge_at, stands, is_born_at}
-use Rattle.delf_model.specs.State.{State, Logged, JobRow, start, step, run, after, owner, owned, is_owned_by, is_job, graph_after, job_row, starts_at, jobs_after, items_after, new_job, started_job, restored_at, purged_if, erased_at, start_of, unlink_start, root_of_start, key_of, edge_item, object_item, unhandled, first_of_two, birth_of, handled_at, outcome}
+use Rattle.delf_model.specs.State.{State, Logged, JobRow, start, owner, owned, is_owned_by, is_job, job_row, starts_at}
+use Rattle.delf_model.specs.Step.{step, run, after, graph_after, jobs_after, items_after, new_job, started_job, row_restored_at, purged_if, erased_at, edge_item, object_item, unhandled, birth_of, handled_at, outcome}
+use Rattle.delf_model.specs.Owners.{start_of, unlink_start, root_of_start, key_of}
+use Rattle.std.specs.Option.{option_or}
 use Rattle.delf_model.specs.Legal.{is_legal, is_legal_from, is_allowed, Legal, is_end_item}
 use Rattle.delf_model.specs.Closure.{root_of, root_of_row}
 use Rattle.delf_model.specs.Sound.{Reached, erasures, is_erasure_of, ErasedReached, DoneErasesReached}
@@ -185,7 +188,7 @@ mapped_root : (f : JobRow → JobRow) (o : Option JobRow) → ((row : JobRow) �
 mapped_root f None same = refl
 mapped_root f (Some row) same = ap Some (same row)
 
-restored_root : (which position : ℕ) (row : JobRow) → (restored_at which position row).root ≡ row.root
+restored_root : (which position : ℕ) (row : JobRow) → (row_restored_at which position row).root ≡ row.root
 restored_root which position row = by_hit (eqb row.start which)
   where
     by_hit : (b : Bool) → (cond b (record row { restored = Some position }) row).root ≡ row.root
@@ -218,7 +221,7 @@ grown_root : (jobs : List JobRow) (len : ℕ) (o : Option (ℕ × JobName)) (job
     (root_of_row (job_row jobs job) ≡ Some id) ⊎ ((job ≡ len) × (root_of_start o ≡ Some id))
 grown_root jobs len o job id is = by_row (job_row jobs job) (sym (ap root_of_row (job_row-started jobs len o job)) ∙ is)
   where
-    by_row : (r : Option JobRow) → root_of_row (first_of_two r (job_row (started_job len o) job)) ≡ Some id → (root_of_row r ≡ Some id) ⊎ ((job ≡ len) × (root_of_start o ≡ Some id))
+    by_row : (r : Option JobRow) → root_of_row (option_or r (job_row (started_job len o) job)) ≡ Some id → (root_of_row r ≡ Some id) ⊎ ((job ≡ len) × (root_of_start o ≡ Some id))
     by_row None here = inr (started_root len o job id here)
     by_row (Some row) here = inl here
 
@@ -230,7 +233,7 @@ root_new s moment (Link tag edge from to size) job id is = inl is
 root_new s moment (Unlink tag edge from to name) job id is = grown_root s.jobs s.len (unlink_start s edge from to name) job id is
 root_new s moment (Delete tag x name) job id is = grown_root s.jobs s.len (Some (x, Named name)) job id is
 root_new s moment (Restore tag which) job id is =
-    inl (sym (mapped_root (restored_at which s.len) (job_row s.jobs job) (restored_root which s.len)) ∙ (sym (ap root_of_row (job_row-restored s.jobs which s.len job)) ∙ is))
+    inl (sym (mapped_root (row_restored_at which s.len) (job_row s.jobs job) (restored_root which s.len)) ∙ (sym (ap root_of_row (job_row-restored s.jobs which s.len job)) ∙ is))
 root_new s moment (Expire x) job id is = grown_root s.jobs s.len (Some (x, Expiry x)) job id is
 root_new s moment (Cut which edge from to) job id is =
     inl (sym (mapped_root (erased_at which moment) (job_row s.jobs job) (erased_root which moment)) ∙ (sym (ap root_of_row (job_row-erased s.jobs which moment job)) ∙ is))

@@ -2,9 +2,11 @@
 use Rattle.std.specs.Prelude.{◌≡◌, ℕ, ◌+◌, ◌≤◌, List, [], ◌∷◌, ◌++◌, length, take, true, IsTrue}
 use Rattle.delf_model.specs.declared.entry.Entry.{Entry}
 use Rattle.delf_model.specs.RuleSet.{RuleSet}
-use Rattle.delf_model.specs.State.{State, step, after, owner}
+use Rattle.delf_model.specs.State.{State, owner}
+use Rattle.delf_model.specs.Step.{step, after}
 use Rattle.delf_model.specs.Store.{EndsStand}
-use Rattle.delf_model.specs.Legal.{Legal, is_legal, greatest_moment}
+use Rattle.delf_model.specs.Legal.{Legal, is_legal}
+use Rattle.delf_model.specs.Room.{greatest_moment}
 use Rattle.delf_model.proofs.Plain.{plain_owner}
 
 -- one legal entry more: the state is one step further, the history stays legal, and owners change by the kind of the

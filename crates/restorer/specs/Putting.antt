@@ -4,7 +4,8 @@ use Rattle.delf_model.specs.declared.rows.EdgeKey.{EdgeKey}
 use Rattle.delf_model.specs.declared.rows.Item.{Item}
 use Rattle.delf_model.specs.declared.rows.Item.TheVariants as item
 use Rattle.delf_model.specs.Graph.{Graph}
-use Rattle.delf_model.specs.State.{State, judged}
+use Rattle.delf_model.specs.State.{State}
+use Rattle.delf_model.specs.Puts.{judged}
 
 -- in a state with this graph the item is judged to be put back
 abbrev pub IsPutBack : Graph → Item → Type 0

@@ -1,6 +1,7 @@
 ghost use Rattle.std.specs.Prelude.{◌≡◌};
 ghost use Rattle.delf_model.specs.Graph.{object_at, edge_at};
-ghost use Rattle.delf_model.specs.State.{State, judged, taken, key_taken, end_cause};
+ghost use Rattle.delf_model.specs.State.{State};
+ghost use Rattle.delf_model.specs.Puts.{judged, taken, key_taken, end_cause};
 ghost use Rattle.job_table.specs.Table.{IsTableOf};
 
 use delf_model::{Cause, EdgeKey, GraphStore, Item, ObjectId};

@@ -1,6 +1,6 @@
 ghost use Rattle.std.specs.Prelude.{◌≡◌};
 ghost use Rattle.delf_model.specs.Graph.{changed};
-ghost use Rattle.delf_model.specs.State.{put_of_item};
+ghost use Rattle.delf_model.specs.Step.{put_of_item};
 ghost use Rattle.restorer.specs.Putting.{IsPutBack, IsReady, HasPlace};
 
 use delf_model::{GraphStore, Item};

@@ -12,8 +12,11 @@ use Rattle.delf_model.specs.declared.entry.Entry.{Entry}
 use Rattle.delf_model.specs.declared.entry.What.{What}
 use Rattle.delf_model.specs.declared.entry.What.TheVariants.{Unlink}
 use Rattle.delf_model.specs.declared.script.Command.TheVariants.{Submit}
-use Rattle.delf_model.specs.State.{State, start_of, unlink_start}
-use Rattle.delf_model.specs.Legal.{Legal, refused, answered_by, next_tag, reply, moment_of}
+use Rattle.delf_model.specs.State.{State}
+use Rattle.delf_model.specs.Owners.{start_of, unlink_start}
+use Rattle.delf_model.specs.Legal.{Legal}
+use Rattle.delf_model.specs.Reply.{refused, answered_by, next_tag, reply}
+use Rattle.delf_model.specs.Room.{moment_of}
 use Rattle.delf_model.specs.Payloads.{Payloads, payloads_after}
 use Rattle.store_laws.specs.Stores.{digest}
 use Rattle.store_laws.specs.Moves.{RestIn}

@@ -13,8 +13,11 @@ use Rattle.delf_model.specs.declared.entry.What.{What}
 use Rattle.delf_model.specs.declared.entry.What.TheVariants.{Create, Update, Link, Unlink, Delete, Restore, Expire, Cut, Erase, Put, Purge}
 use Rattle.delf_model.specs.RuleSet.{RuleSet}
 use Rattle.delf_model.specs.Graph.{object_at, edge_at}
-use Rattle.delf_model.specs.State.{State, Logged, Handled, Owners, start, step, run, after, jobs_after, items_after, started_job, unlink_start, restored_at, erased_at, purged_if, edge_item, object_item, handled_at, outcome, owner_in, key_of}
-use Rattle.delf_model.specs.Legal.{Legal, owed_for_object, owed_for_edge}
+use Rattle.delf_model.specs.State.{State, Logged, Handled, Owners, start, owner_in}
+use Rattle.delf_model.specs.Step.{step, run, after, jobs_after, items_after, started_job, row_restored_at, erased_at, purged_if, edge_item, object_item, handled_at, outcome}
+use Rattle.delf_model.specs.Owners.{unlink_start, key_of}
+use Rattle.delf_model.specs.Legal.{Legal}
+use Rattle.delf_model.specs.Room.{owed_for_object, owed_for_edge}
 use Rattle.delf_model.specs.Report.{listed_from, listed_by, listed_with, is_of_job}
 use Rattle.delf_model.proofs.Good.{good_after}
 
@@ -29,7 +32,7 @@ jobs_step s moment (Link tag edge from to size) = omega arith
 jobs_step s moment (Unlink tag edge from to name) =
     omega (arith, length-append s.jobs (started_job s.len (unlink_start s edge from to name)), one_start s.len (unlink_start s edge from to name))
 jobs_step s moment (Delete tag id name) = simp length-append (omega arith)
-jobs_step s moment (Restore tag job) = omega (arith, length-map s.jobs (restored_at job s.len))
+jobs_step s moment (Restore tag job) = omega (arith, length-map s.jobs (row_restored_at job s.len))
 jobs_step s moment (Expire id) = simp length-append (omega arith)
 jobs_step s moment (Cut job edge from to) = omega (arith, length-map s.jobs (erased_at job moment))
 jobs_step s moment (Erase job id) = omega (arith, length-map s.jobs (erased_at job moment))

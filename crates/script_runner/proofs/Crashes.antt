@@ -9,7 +9,7 @@ use Rattle.delf_model.specs.declared.schema.Schema.{Schema}
 use Rattle.delf_model.specs.RuleSet.{RuleSet}
 use Rattle.delf_model.specs.Legal.{Legal}
 use Rattle.delf_model.specs.Payloads.{Payloads, payloads_after}
-use Rattle.delf_model.specs.State.{after}
+use Rattle.delf_model.specs.Step.{after}
 use Rattle.entry_codec.specs.EntryHead.{AreEntries, IsEntry}
 use Rattle.store_laws.specs.Stores.{StandBut, digest}
 use Rattle.store_laws.specs.Moves.{RestIn}

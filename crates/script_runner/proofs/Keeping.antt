@@ -12,8 +12,9 @@ use Rattle.delf_model.specs.declared.rows.EdgeRow.{EdgeRow}
 use Rattle.delf_model.specs.RuleSet.{RuleSet}
 use Rattle.delf_model.specs.Graph.{Graph, has_id, object_at}
 use Rattle.delf_model.specs.Report.{listed_from, listed_at}
-use Rattle.delf_model.specs.State.{after}
-use Rattle.delf_model.specs.Legal.{Legal, reply}
+use Rattle.delf_model.specs.Step.{after}
+use Rattle.delf_model.specs.Legal.{Legal}
+use Rattle.delf_model.specs.Reply.{reply}
 use Rattle.script_runner.specs.Names.{IsNumberedObject, IsNumberedEdge, IsNumberedListed, IsNumberedRefusal}
 use Rattle.script_runner.proofs.Counts.{objects_few, edges_few}
 use Rattle.script_runner.proofs.Numbered.{all_found, all_at, rules_after, objects_numbered, edges_numbered, listed_numbered, numbered_after}

@@ -6,7 +6,7 @@ use Rattle.delf_disk.specs.Areas.{Areas}
 use Rattle.delf_model.specs.declared.entry.Entry.{Entry}
 use Rattle.delf_model.specs.declared.script.Command.{Command}
 use Rattle.delf_model.specs.RuleSet.{RuleSet}
-use Rattle.delf_model.specs.Legal.{greatest_moment}
+use Rattle.delf_model.specs.Room.{greatest_moment}
 use Rattle.delf_model.specs.Payloads.{Payloads}
 use Rattle.entry_codec.specs.EntryHead.{AreEntries}
 use Rattle.store_laws.specs.Stores.{StandBut}

@@ -12,8 +12,10 @@ use Rattle.delf_model.specs.declared.call.Refusal.TheVariants.{TooLong, Absent, 
 use Rattle.delf_model.specs.declared.entry.What.{What}
 use Rattle.delf_model.specs.declared.entry.What.TheVariants.{Create, Update, Link, Unlink, Delete, Restore, Expire, Cut, Erase, Put, Purge}
 use Rattle.delf_model.specs.Graph.{has_id, object_at, edge_at, edge_stands}
-use Rattle.delf_model.specs.State.{State, JobRow, owner, owned, job_row, unlink_start, key_of}
-use Rattle.delf_model.specs.Legal.{refusals, refused, first_refusal, answered, answered_by, asked, reply, next_tag, payload_limit, too_long, absent, condemned, condemned_by, kind_differs, wrong_source, wrong_target, name_taken_by, edge_taken_by, not_direct_row, not_direct_rule, is_direct, job_taken, restored_before, restored_by, window_over, window_end, full}
+use Rattle.delf_model.specs.State.{State, JobRow, owner, owned, job_row}
+use Rattle.delf_model.specs.Owners.{unlink_start, key_of}
+use Rattle.delf_model.specs.Reply.{refusals, refused, first_refusal, answered, answered_by, asked, reply, next_tag, too_long, absent, condemned, condemned_by, kind_differs, wrong_source, wrong_target, name_taken_by, edge_taken_by, not_direct_row, not_direct_rule, is_direct, job_taken, restored_before, restored_by, window_over, window_end, full}
+use Rattle.delf_model.specs.Room.{payload_limit}
 use Rattle.script_runner.specs.Names.{IsNumberedObject, IsNumberedRefusal}
 use Rattle.script_runner.proofs.Numbered.{all_found}
 

@@ -8,7 +8,8 @@ use Rattle.delf_model.specs.declared.script.Command.{Command}
 use Rattle.delf_model.specs.declared.script.Command.TheVariants.{Tick, Fail}
 use Rattle.delf_model.specs.declared.entry.Entry.{Entry}
 use Rattle.delf_model.specs.RuleSet.{RuleSet}
-use Rattle.delf_model.specs.Legal.{Legal, greatest_moment}
+use Rattle.delf_model.specs.Legal.{Legal}
+use Rattle.delf_model.specs.Room.{greatest_moment}
 use Rattle.delf_model.specs.Payloads.{Payloads}
 use Rattle.store_laws.specs.Moves.{RestIn}
 use Rattle.store_laws.proofs.Appends.{rest_stand}

@@ -7,7 +7,8 @@ use Rattle.delf_model.specs.declared.entry.Entry.{Entry}
 use Rattle.delf_model.specs.declared.entry.What.{What}
 use Rattle.delf_model.specs.declared.script.Command.TheVariants.{Work}
 use Rattle.delf_model.specs.State.{position_of}
-use Rattle.delf_model.specs.Legal.{Legal, moment_of}
+use Rattle.delf_model.specs.Legal.{Legal}
+use Rattle.delf_model.specs.Room.{moment_of}
 use Rattle.delf_model.specs.Payloads.{Payloads, payload_at, payloads_after}
 use Rattle.store_laws.specs.Stores.{digest}
 use Rattle.store_laws.specs.Moves.{RestIn}

@@ -18,8 +18,9 @@ use Rattle.delf_model.specs.declared.entry.What.{What}
 use Rattle.delf_model.specs.declared.script.Command.{Command}
 use Rattle.delf_model.specs.declared.script.Command.TheVariants.{Submit, Work, Tick, Get, Show, Job, Jobs, Report, Fail, Crash, Par}
 use Rattle.delf_model.specs.Graph.{object_at}
-use Rattle.delf_model.specs.State.{State, JobRow, owner, find_job, job_row, unlink_start}
-use Rattle.delf_model.specs.Legal.{reply}
+use Rattle.delf_model.specs.State.{State, JobRow, owner, find_job, job_row}
+use Rattle.delf_model.specs.Owners.{unlink_start}
+use Rattle.delf_model.specs.Reply.{reply}
 use Rattle.delf_model.specs.Order.{first_step}
 use Rattle.delf_model.specs.Report.{job_line, listed_from}
 use Rattle.job_report.specs.declared.work.WorkEnd.{WorkEnd}

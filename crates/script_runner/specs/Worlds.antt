@@ -4,8 +4,9 @@ use Rattle.delf_disk.specs.Areas.{Areas}
 use Rattle.delf_model.specs.declared.entry.Entry.{Entry}
 use Rattle.delf_model.specs.declared.entry.What.{What}
 use Rattle.delf_model.specs.RuleSet.{RuleSet}
-use Rattle.delf_model.specs.State.{State, after}
-use Rattle.delf_model.specs.Legal.{moment_of, greatest_moment}
+use Rattle.delf_model.specs.State.{State}
+use Rattle.delf_model.specs.Step.{after}
+use Rattle.delf_model.specs.Room.{moment_of, greatest_moment}
 use Rattle.delf_model.specs.Payloads.{Payloads, payloads_after}
 use Rattle.store_laws.specs.Stores.{digest, StandBut}
 use Rattle.store_laws.specs.Moves.{RestIn, StandsFor}

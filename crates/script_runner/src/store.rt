@@ -5,7 +5,7 @@ ghost use Rattle.delf_model.specs.declared.entry.Entry.{Entry};
 ghost use Rattle.delf_model.specs.declared.script.Command.TheVariants.{Crash};
 ghost use Rattle.delf_model.specs.Checked.{IsSpellable, numbered};
 ghost use Rattle.job_report.specs.Texts.{opened_text};
-ghost use Rattle.delf_model.specs.Legal.{greatest_moment};
+ghost use Rattle.delf_model.specs.Room.{greatest_moment};
 ghost use Rattle.delf_model.specs.Payloads.{Payloads};
 ghost use Rattle.entry_codec.specs.EntryHead.{AreEntries};
 ghost use Rattle.store_laws.specs.Stores.{StandBut};

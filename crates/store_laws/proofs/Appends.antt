@@ -10,7 +10,8 @@ use Rattle.gate_log.specs.Steps.{MayAdd, Adds}
 use Rattle.delf_model.specs.declared.entry.Entry.{Entry}
 use Rattle.delf_model.specs.declared.entry.What.{What}
 use Rattle.delf_model.specs.RuleSet.{RuleSet}
-use Rattle.delf_model.specs.State.{State, Logged, after}
+use Rattle.delf_model.specs.State.{State, Logged}
+use Rattle.delf_model.specs.Step.{after}
 use Rattle.delf_model.specs.Legal.{Legal, is_legal}
 use Rattle.delf_model.specs.Payloads.{Payloads, payloads_after}
 use Rattle.delf_model.proofs.Runs.{Legal_push}

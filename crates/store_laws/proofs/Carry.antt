@@ -9,7 +9,8 @@ use Rattle.delf_model.specs.declared.entry.Entry.{Entry}
 use Rattle.delf_model.specs.declared.entry.What.{What}
 use Rattle.delf_model.specs.declared.entry.What.TheVariants.{Create, Update, Link, Unlink, Delete, Restore, Expire, Cut, Erase, Put, Purge}
 use Rattle.delf_model.specs.RuleSet.{RuleSet}
-use Rattle.delf_model.specs.State.{State, Logged, start, step, after, items_after}
+use Rattle.delf_model.specs.State.{State, Logged, start}
+use Rattle.delf_model.specs.Step.{step, after, items_after}
 use Rattle.delf_model.specs.Legal.{Legal, is_legal}
 use Rattle.delf_model.specs.Payloads.{Payloads, is_needed, is_needed_pair, is_at, payload_at, bytes_of_pair, brought, sealed, payloads_after, Carrier, Journal, Vault, last_carrier}
 use Rattle.delf_model.proofs.Runs.{after_push}

@@ -9,7 +9,9 @@ use Rattle.delf_model.specs.declared.entry.Entry.{Entry}
 use Rattle.delf_model.specs.declared.entry.What.{What}
 use Rattle.delf_model.specs.declared.entry.What.TheVariants.{Cut, Erase, Put}
 use Rattle.delf_model.specs.Graph.{object_at, edge_at}
-use Rattle.delf_model.specs.State.{State, Logged, Handled, step, run, items_after, handled_at, outcome, edge_item, object_item, key_of}
+use Rattle.delf_model.specs.State.{State, Logged, Handled}
+use Rattle.delf_model.specs.Step.{step, run, items_after, handled_at, outcome, edge_item, object_item}
+use Rattle.delf_model.specs.Owners.{key_of}
 use Rattle.entry_codec.specs.ItemHead.{item_head}
 use Rattle.payload_laws.specs.Holders.{record_size, position_taken}
 use Rattle.store_laws.specs.Stores.{item_heads, logged_size, record_sizes}

@@ -12,8 +12,12 @@ use Rattle.delf_model.specs.declared.entry.Entry.{Entry}
 use Rattle.delf_model.specs.declared.entry.What.{What}
 use Rattle.delf_model.specs.declared.entry.What.TheVariants.{Create, Update, Link, Unlink, Delete, Restore, Expire, Cut, Erase, Put, Purge}
 use Rattle.delf_model.specs.Graph.{Graph, has_id, changed, rewritten, object_at, edge_at, edge_stands, is_touched}
-use Rattle.delf_model.specs.State.{State, Logged, step, graph_after, put_change, put_unless, put_of_item, new_object, new_edge, key_of, judged, position_of, size_of, job_of, is_owned_by, unhandled, edge_item, object_item, birth_of}
-use Rattle.delf_model.specs.Legal.{is_allowed, refusals}
+use Rattle.delf_model.specs.State.{State, Logged, position_of, size_of, job_of, is_owned_by}
+use Rattle.delf_model.specs.Step.{step, graph_after, put_change, put_unless, put_of_item, new_object, new_edge, unhandled, edge_item, object_item, birth_of}
+use Rattle.delf_model.specs.Owners.{key_of}
+use Rattle.delf_model.specs.Puts.{judged}
+use Rattle.delf_model.specs.Legal.{is_allowed}
+use Rattle.delf_model.specs.Reply.{refusals}
 use Rattle.delf_model.specs.Report.{was_put}
 use Rattle.delf_model.specs.Payloads.{is_needed, is_purged, object_needs, edge_needs, item_needs, keeps_payload, Carrier, Journal, Vault, last_carrier}
 use Rattle.delf_model.proofs.Lines.{none_of, there}

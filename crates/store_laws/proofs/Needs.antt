@@ -11,7 +11,9 @@ use Rattle.delf_model.specs.declared.entry.What.{What}
 use Rattle.delf_model.specs.declared.entry.What.TheVariants.{Cut, Erase}
 use Rattle.delf_model.specs.RuleSet.{RuleSet}
 use Rattle.delf_model.specs.Graph.{has_id, has_key, object_at, edge_at, edge_stands, is_touched}
-use Rattle.delf_model.specs.State.{State, after, key_of, is_owned_by}
+use Rattle.delf_model.specs.State.{State, is_owned_by}
+use Rattle.delf_model.specs.Step.{after}
+use Rattle.delf_model.specs.Owners.{key_of}
 use Rattle.delf_model.specs.Legal.{Legal, is_allowed}
 use Rattle.delf_model.specs.Report.{was_put}
 use Rattle.delf_model.specs.Payloads.{is_needed, object_needs, edge_needs, item_needs, Carrier, Journal, Vault, last_carrier, position_of_object, position_of_edge}

@@ -7,7 +7,8 @@ use Rattle.delf_disk.specs.Areas.{Areas}
 use Rattle.gate_log.specs.Records.{Record, payload_of}
 use Rattle.delf_model.specs.declared.entry.Entry.{Entry}
 use Rattle.delf_model.specs.RuleSet.{RuleSet}
-use Rattle.delf_model.specs.State.{State, step, after}
+use Rattle.delf_model.specs.State.{State}
+use Rattle.delf_model.specs.Step.{step, after}
 use Rattle.delf_model.specs.Legal.{Legal, is_legal, is_allowed}
 use Rattle.delf_model.specs.Payloads.{Payloads, Carrier, Journal, Vault}
 use Rattle.delf_model.proofs.Runs.{after_push, Legal_push}

@@ -5,7 +5,8 @@ use Rattle.std.specs.Prelude.{find, is_some}
 use Rattle.delf_model.specs.declared.entry.Entry.{Entry}
 use Rattle.delf_model.specs.declared.entry.What.{What}
 use Rattle.delf_model.specs.RuleSet.{RuleSet}
-use Rattle.delf_model.specs.State.{State, JobRow, start, step, after, owner, owned, left, job_row, starts_at}
+use Rattle.delf_model.specs.State.{State, JobRow, start, owner, owned, left, job_row, starts_at}
+use Rattle.delf_model.specs.Step.{step, after}
 use Rattle.delf_model.specs.Legal.{Legal, is_legal, is_allowed, may_purge, window_passed}
 use Rattle.delf_model.specs.Payloads.{is_purged, is_purged_row}
 use Rattle.delf_model.proofs.Lines.{allowed_of}

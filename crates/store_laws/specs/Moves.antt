@@ -7,7 +7,9 @@ use Rattle.delf_model.specs.declared.entry.Entry.{Entry}
 use Rattle.delf_model.specs.declared.entry.What.{What}
 use Rattle.delf_model.specs.declared.entry.What.TheVariants.{Put}
 use Rattle.delf_model.specs.RuleSet.{RuleSet}
-use Rattle.delf_model.specs.State.{State, Logged, after, items_after, judged}
+use Rattle.delf_model.specs.State.{State, Logged}
+use Rattle.delf_model.specs.Step.{after, items_after}
+use Rattle.delf_model.specs.Puts.{judged}
 use Rattle.delf_model.specs.Payloads.{Payloads, payloads_after, last_carrier}
 use Rattle.payload_laws.specs.Holders.{record_size, brings, position_taken}
 use Rattle.store_laws.specs.Stores.{digest, payload_in, length_in, head_in, logged_size, item_heads, seals_of, StandBut, Rest, Hold, journal_of, vault_of}

@@ -7,7 +7,8 @@ use Rattle.entry_codec.specs.EntryHead.{entry_head}
 use Rattle.entry_codec.specs.ItemHead.{item_head}
 use Rattle.delf_model.specs.declared.entry.Entry.{Entry}
 use Rattle.delf_model.specs.RuleSet.{RuleSet}
-use Rattle.delf_model.specs.State.{State, Logged, start, step, after, size_of}
+use Rattle.delf_model.specs.State.{State, Logged, start, size_of}
+use Rattle.delf_model.specs.Step.{step, after}
 use Rattle.delf_model.specs.Legal.{Legal}
 use Rattle.delf_model.specs.Payloads.{Payloads, payload_at, is_at, is_needed, last_carrier, Carrier, Journal, Vault}
 use Rattle.payload_laws.specs.Holders.{IsLive, record_size}

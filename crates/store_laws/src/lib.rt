@@ -10,7 +10,7 @@ ghost use Rattle.gate_log.specs.Records.{Record, payload_of, replaced};
 ghost use Rattle.gate_log.specs.Logs.{Log};
 ghost use Rattle.delf_model.specs.declared.entry.Entry.{Entry};
 ghost use Rattle.delf_model.specs.RuleSet.{RuleSet};
-ghost use Rattle.delf_model.specs.State.{after};
+ghost use Rattle.delf_model.specs.Step.{after};
 ghost use Rattle.delf_model.specs.Legal.{Legal, is_legal};
 ghost use Rattle.delf_model.specs.Payloads.{Payloads, payloads_after, Journal, Vault};
 ghost use Rattle.payload_laws.specs.Holders.{IsLive};

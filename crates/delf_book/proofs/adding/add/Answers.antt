@@ -1,7 +1,8 @@
 use Rattle.std.proofs.Common.{ℕ, List, [], ◌∷◌, ◌++◌, length, refl, sym, ap, ◌∙◌, subst}
 use Rattle.delf_model.specs.declared.entry.Entry.{Entry}
 use Rattle.delf_model.specs.RuleSet.{RuleSet}
-use Rattle.delf_model.specs.State.{start, after}
+use Rattle.delf_model.specs.State.{start}
+use Rattle.delf_model.specs.Step.{after}
 use Rattle.delf_disk.proofs.Flags.{stays_plain}
 use Rattle.delf_book.specs.Keeping.{KeepsLogs, KeepsCarriers, KeepsAreas, payloads_in}
 use Rattle.delf_book.proofs.Plainly.{plain_writes, clean_for, areas_longer, at_ledger, if_below}

@@ -1,5 +1,5 @@
 use Rattle.std.proofs.Common.{sym, ap, ◌∙◌}
-use Rattle.delf_model.specs.State.{after}
+use Rattle.delf_model.specs.Step.{after}
 use Rattle.delf_book.specs.Writing.{dead_carriers}
 use Rattle.delf_book.proofs.Taking.{scrubs_row, scrubs_some}
 use Rattle.delf_book.proofs.erasing.carrying_record.Goals as goal

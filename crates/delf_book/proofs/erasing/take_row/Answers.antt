@@ -3,7 +3,8 @@ use Rattle.std.specs.Prelude.{map}
 use Rattle.delf_disk.proofs.Flags.{stays_plain, was_plain}
 use Rattle.delf_model.specs.declared.entry.Entry.{Entry}
 use Rattle.delf_model.specs.RuleSet.{RuleSet}
-use Rattle.delf_model.specs.State.{start, after, unhandled}
+use Rattle.delf_model.specs.State.{start}
+use Rattle.delf_model.specs.Step.{after, unhandled}
 use Rattle.delf_book.specs.Keeping.{KeepsLogs, KeepsCarriers, KeepsAreas, payloads_in, item_sizes}
 use Rattle.delf_book.proofs.Plainly.{areas_longer, at_ledger}
 use Rattle.delf_book.proofs.Sizes.{journal_in, logs_taken, length_journal_sizes}

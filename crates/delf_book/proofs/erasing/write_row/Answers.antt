@@ -3,7 +3,8 @@ use Rattle.delf_disk.specs.Plain.{Plain}
 use Rattle.delf_disk.proofs.Flags.{stays_plain, was_plain}
 use Rattle.delf_disk.proofs.Moments.{leaves_widened}
 use Rattle.gate_log.specs.Records.{Record}
-use Rattle.delf_model.specs.State.{start, after}
+use Rattle.delf_model.specs.State.{start}
+use Rattle.delf_model.specs.Step.{after}
 use Rattle.delf_model.specs.Payloads.{Payloads}
 use Rattle.store_laws.specs.Moves.{RestIn}
 use Rattle.delf_book.specs.Keeping.{payloads_in}

@@ -3,7 +3,7 @@ use Rattle.delf_disk.proofs.Flags.{stays_plain, was_plain}
 use Rattle.delf_disk.proofs.Moments.{leaves_widened}
 use Rattle.delf_model.specs.declared.entry.Entry.{Entry}
 use Rattle.delf_model.specs.RuleSet.{RuleSet}
-use Rattle.delf_model.specs.State.{after}
+use Rattle.delf_model.specs.Step.{after}
 use Rattle.delf_book.specs.Keeping.{KeepsLogs, KeepsCarriers, KeepsAreas, payloads_in}
 use Rattle.delf_book.specs.Writing.{longer, next_payloads}
 use Rattle.delf_book.proofs.Carrying.{carriers_longer}

@@ -1,7 +1,7 @@
 use Rattle.std.proofs.Common.{length, sym, ap, ◌∙◌, arith}
 use Rattle.std.proofs.lemmas.List.{length-map}
 use Rattle.delf_disk.proofs.Flags.{stays_plain, same_kinds}
-use Rattle.delf_model.specs.State.{after}
+use Rattle.delf_model.specs.Step.{after}
 use Rattle.payload_laws.specs.Holders.{unput_of}
 use Rattle.delf_book.specs.Keeping.{item_sizes}
 use Rattle.ledger.specs.Ledgers.{state_of}

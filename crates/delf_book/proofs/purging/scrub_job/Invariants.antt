@@ -5,7 +5,7 @@ use Rattle.gate_log.specs.Logs.{StandIn}
 use Rattle.delf_model.specs.declared.entry.Entry.{Entry}
 use Rattle.delf_model.specs.Payloads.{Payloads}
 use Rattle.delf_model.specs.RuleSet.{RuleSet}
-use Rattle.delf_model.specs.State.{after}
+use Rattle.delf_model.specs.Step.{after}
 use Rattle.payload_laws.specs.Holders.{unput_of}
 use Rattle.store_laws.specs.Moves.{RestIn}
 use Rattle.store_laws.specs.Steps.{AreScrubbedBut}

@@ -1,7 +1,7 @@
 use Rattle.std.proofs.Common.{ℕ, ◌≤◌, take, subst, sym}
 use Rattle.delf_disk.proofs.Flags.{stays_plain}
-use Rattle.delf_model.specs.State.{after}
-use Rattle.delf_model.specs.Legal.{payload_limit}
+use Rattle.delf_model.specs.Step.{after}
+use Rattle.delf_model.specs.Room.{payload_limit}
 use Rattle.delf_book.specs.Keeping.{payloads_in}
 use Rattle.delf_book.proofs.Fetching.{short_here, size_of_waiting, stands_here, fetched_payload, fetched_seal, tells_why, if_ok, on_if_ok, if_err}
 use Rattle.delf_book.proofs.putting.fetch_item.Goals as goal

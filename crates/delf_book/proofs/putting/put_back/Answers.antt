@@ -1,7 +1,7 @@
 use Rattle.std.proofs.Common.{inl}
 use Rattle.delf_disk.proofs.Flags.{stays_plain, was_plain}
 use Rattle.delf_disk.proofs.Moments.{leaves_widened}
-use Rattle.delf_model.specs.State.{after}
+use Rattle.delf_model.specs.Step.{after}
 use Rattle.store_laws.proofs.Appends.{rest_stand}
 use Rattle.delf_book.specs.Keeping.{payloads_in}
 use Rattle.delf_book.proofs.Fetching.{areas_read}

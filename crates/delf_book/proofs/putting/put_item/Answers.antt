@@ -1,4 +1,4 @@
-use Rattle.delf_model.specs.State.{after}
+use Rattle.delf_model.specs.Step.{after}
 use Rattle.delf_book.proofs.GoesBack.{no_size, no_dead, goes_not, goes_back}
 use Rattle.delf_book.proofs.putting.put_item.Goals as goal
 

@@ -1,7 +1,7 @@
 use Rattle.std.proofs.Common.{[], length, refl}
 use Rattle.delf_disk.proofs.Moments.{leaves_widened}
 use Rattle.delf_disk.proofs.Flags.{stays_plain, was_plain}
-use Rattle.delf_model.specs.State.{after}
+use Rattle.delf_model.specs.Step.{after}
 use Rattle.delf_model.specs.Payloads.{Vault}
 use Rattle.delf_model.proofs.Lines.{moment_within}
 use Rattle.payload_laws.specs.Holders.{scrubbed_by}

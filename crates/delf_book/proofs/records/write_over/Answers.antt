@@ -2,7 +2,7 @@ use Rattle.std.proofs.Common.{◌≡◌, [], ◌∷◌, sym, ap, ◌∙◌}
 use Rattle.delf_disk.proofs.Moments.{leaves_widened}
 use Rattle.delf_disk.proofs.Flags.{stays_plain}
 use Rattle.delf_model.specs.declared.entry.Entry.{Entry}
-use Rattle.delf_model.specs.State.{after}
+use Rattle.delf_model.specs.Step.{after}
 use Rattle.delf_model.specs.Payloads.{Journal}
 use Rattle.payload_laws.specs.Holders.{scrubbed_by}
 use Rattle.delf_book.specs.Writing.{dead_carriers, longer, next_payloads}

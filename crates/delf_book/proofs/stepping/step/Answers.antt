@@ -5,7 +5,7 @@ use Rattle.delf_disk.proofs.Flags.{was_plain}
 use Rattle.vault.specs.declared.fault.FetchFault.{FetchFault}
 use Rattle.delf_model.specs.declared.entry.Entry.{Entry}
 use Rattle.delf_model.specs.RuleSet.{RuleSet}
-use Rattle.delf_model.specs.State.{after}
+use Rattle.delf_model.specs.Step.{after}
 use Rattle.delf_model.specs.Payloads.{Payloads}
 use Rattle.store_laws.specs.Moves.{RestIn}
 use Rattle.delf_book.specs.Stepping.{TellsWhy, IfDamaged}

@@ -1,5 +1,6 @@
 use Rattle.std.proofs.Common.{List, ap, ◌∙◌}
-use Rattle.delf_model.specs.State.{Logged, unhandled}
+use Rattle.delf_model.specs.State.{Logged}
+use Rattle.delf_model.specs.Step.{unhandled}
 use Rattle.job_table.specs.Restoring.{restoring_at}
 use Rattle.job_table.proofs.Restores.{changed_queue, others_with}
 use Rattle.job_table.proofs.apply.push.Goals as goal

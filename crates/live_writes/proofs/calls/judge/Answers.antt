@@ -1,6 +1,6 @@
 use Rattle.std.proofs.Common.{ℕ, Some, None, sym, ap, ◌∙◌}
 use Rattle.delf_model.specs.declared.entry.What.TheVariants.{Create, Update, Link, Unlink, Delete, Restore}
-use Rattle.delf_model.specs.Legal.{asked, restore_of}
+use Rattle.delf_model.specs.Reply.{asked, restore_of}
 use Rattle.live_writes.proofs.Answering.{told}
 use Rattle.live_writes.proofs.calls.judge.Goals as goal
 

@@ -1,7 +1,7 @@
 use Rattle.std.proofs.Common.{◌≡◌, ◌+◌, sym, ◌∙◌, arith}
 use Rattle.delf_model.specs.declared.entry.What.TheVariants.{Update}
-use Rattle.delf_model.specs.State.{step}
-use Rattle.delf_model.specs.Legal.{owed}
+use Rattle.delf_model.specs.Step.{step}
+use Rattle.delf_model.specs.Room.{owed}
 use Rattle.job_table.proofs.Calls.{update_owed}
 use Rattle.live_writes.proofs.InOrder.{stop, skip, only}
 use Rattle.live_writes.proofs.kinds.refused_update.Goals as goal

@@ -1,7 +1,7 @@
 use Rattle.std.proofs.Common.{sym, ◌∙◌, ◌+◌, ◌*◌, ◌≡◌, arith}
 use Rattle.delf_model.specs.declared.entry.What.TheVariants.{Restore}
-use Rattle.delf_model.specs.State.{step}
-use Rattle.delf_model.specs.Legal.{owed}
+use Rattle.delf_model.specs.Step.{step}
+use Rattle.delf_model.specs.Room.{owed}
 use Rattle.live_writes.proofs.InOrder.{stop, skip, only}
 use Rattle.live_writes.proofs.Undoing.{row_of_name, job_is_there, pending_now, none_pending_now, not_restored_yet, idle_of, counted_of, purged_of, over_by_purge, not_over, restored_owed, handled_of_table}
 use Rattle.live_writes.proofs.restores.refused_restore.Goals as goal

@@ -3,7 +3,7 @@ use Rattle.std.proofs.Common.{ℕ, ap, ◌∙◌}
 use Rattle.job_report.specs.Texts.{refusal_text}
 use Rattle.script_runner.specs.Serial.{refusal_name}
 use Rattle.std.proofs.lemmas.Result.{IfOk-weaker}
-use Rattle.delf_model.specs.Legal.{moment_of}
+use Rattle.delf_model.specs.Room.{moment_of}
 use Rattle.delf_book.specs.Books.{state_in}
 use Rattle.script_runner.proofs.answers.submit.Goals as goal
 

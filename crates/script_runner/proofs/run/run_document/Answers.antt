@@ -1,7 +1,7 @@
 use Rattle.std.proofs.Common.{◌≡◌, ℕ, List, refl, subst, inl, rules, ◌∙◌, arith, min}
 use Rattle.delf_disk.specs.Causes.{Rose}
 use Rattle.delf_model.specs.declared.script.Command.{Command}
-use Rattle.delf_model.specs.Legal.{greatest_moment}
+use Rattle.delf_model.specs.Room.{greatest_moment}
 use Rattle.script_runner.specs.Outcomes.{ScriptText}
 use Rattle.script_runner.specs.Worlds.{world_of}
 use Rattle.script_runner.proofs.Causes.{stopped_cause}

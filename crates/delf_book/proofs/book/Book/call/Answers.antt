@@ -1,7 +1,7 @@
 use Rattle.std.proofs.Common.{◌≡◌, ℕ, ◌≤◌, length, max, min, sym, ap, ◌∙◌, subst, arith}
 use Rattle.delf_disk.specs.Plain.{Plain}
 use Rattle.delf_model.specs.RuleSet.{RuleSet}
-use Rattle.delf_model.specs.Legal.{greatest_moment, moment_of}
+use Rattle.delf_model.specs.Room.{greatest_moment, moment_of}
 use Rattle.delf_book.specs.Books.{Booked, state_in}
 use Rattle.delf_book.proofs.Callings.{entry_here, call_safe, call_durable}
 use Rattle.delf_book.proofs.book.Book.call.Goals as goal

@@ -2,7 +2,7 @@ use Rattle.std.proofs.Common.{sym, subst}
 use Rattle.delf_disk.specs.Plain.{Plain}
 use Rattle.delf_disk.specs.Areas.{Areas}
 use Rattle.delf_disk.proofs.Flags.{was_plain}
-use Rattle.delf_model.specs.State.{after}
+use Rattle.delf_model.specs.Step.{after}
 use Rattle.store_laws.specs.Stores.{Clean}
 use Rattle.delf_book.specs.Books.{Booked}
 use Rattle.delf_book.specs.Keeping.{payloads_in}

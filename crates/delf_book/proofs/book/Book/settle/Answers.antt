@@ -1,7 +1,7 @@
 use Rattle.std.proofs.Common.{vec_capacity, refl, sym, subst}
 use Rattle.delf_disk.specs.Plain.{Plain}
 use Rattle.delf_disk.proofs.Flags.{was_plain}
-use Rattle.delf_model.specs.State.{after}
+use Rattle.delf_model.specs.Step.{after}
 use Rattle.store_laws.specs.Stores.{Settled}
 use Rattle.delf_book.specs.Books.{Booked}
 use Rattle.delf_book.specs.Keeping.{payloads_in}

@@ -2,8 +2,8 @@ use Rattle.std.proofs.Common.{◌≡◌, ℕ, [], max, min, sym, ap, ◌∙◌, 
 use Rattle.delf_disk.specs.Moments.{Leaves}
 use Rattle.delf_disk.specs.Plain.{Plain}
 use Rattle.delf_model.specs.declared.entry.What.{What}
-use Rattle.delf_model.specs.Legal.{greatest_moment, moment_of}
-use Rattle.delf_model.specs.State.{after}
+use Rattle.delf_model.specs.Room.{greatest_moment, moment_of}
+use Rattle.delf_model.specs.Step.{after}
 use Rattle.delf_model.specs.Payloads.{Payloads}
 use Rattle.store_laws.specs.Moves.{RestIn}
 use Rattle.delf_book.specs.Books.{Booked, state_in, IsCrashSafe, IsDurable}

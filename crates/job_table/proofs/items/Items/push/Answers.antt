@@ -1,5 +1,6 @@
 use Rattle.std.proofs.Common.{◌≡◌, ◌+◌, ◌++◌, ◌∷◌, [], List, length, map, sym, ap, ◌∙◌, arith}
-use Rattle.delf_model.specs.State.{Logged, unhandled}
+use Rattle.delf_model.specs.State.{Logged}
+use Rattle.delf_model.specs.Step.{unhandled}
 use Rattle.std.proofs.lemmas.List.{length-append}
 use Rattle.job_table.specs.Parts.{ItemPart, logged_of}
 use Rattle.job_table.specs.Tallies.{tally_of}

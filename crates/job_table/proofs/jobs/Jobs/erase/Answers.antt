@@ -3,7 +3,7 @@ use Rattle.std.specs.Prelude.{nat_eq}
 use Rattle.job_table.specs.declared.jobs.Row.{Row}
 use Rattle.job_table.specs.Table.{owner_among}
 use Rattle.job_table.specs.Waits.{waits_of, erased_row}
-use Rattle.delf_model.specs.State.{erased_at}
+use Rattle.delf_model.specs.Step.{erased_at}
 use Rattle.job_table.specs.Parts.{row_of}
 use Rattle.job_table.proofs.Naming.{changed_fits}
 use Rattle.job_table.proofs.Places.{change_some, change_none}

@@ -1,6 +1,6 @@
 use Rattle.job_table.specs.declared.jobs.Row.{Row}
 use Rattle.std.proofs.Common.{List, length, get_or, ◌∙◌, arith, Bool, true, cond, sym, refl, ap}
-use Rattle.delf_model.specs.State.{purged_if}
+use Rattle.delf_model.specs.Step.{purged_if}
 use Rattle.job_table.specs.Parts.{row_of}
 use Rattle.job_table.proofs.Naming.{changed_fits, set_length}
 use Rattle.job_table.proofs.Places.{change_some, change_none}

@@ -1,5 +1,5 @@
 use Rattle.std.proofs.Common.{Bool, cond, Some, sym, refl, ap}
-use Rattle.delf_model.specs.State.{restored_at}
+use Rattle.delf_model.specs.Step.{row_restored_at}
 use Rattle.job_table.specs.Parts.{row_of}
 use Rattle.job_table.proofs.Naming.{changed_fits}
 use Rattle.job_table.proofs.Places.{change_some, change_none}
@@ -17,10 +17,10 @@ invariant_of-self c = (
 pub returns-in-Some-clause-list : goal.returns-in-Some-clause-list
 returns-in-Some-clause-list c =
     change_some c.self.inside.rows.items c.deref.result.now c.args.self.now _ c.args.job c.in-Some.i c.index_mut.result.now
-    (record c.index_mut.result.now { restored = Some c.args.at }) (restored_at c.args.job c.args.at)
+    (record c.index_mut.result.now { restored = Some c.args.at }) (row_restored_at c.args.job c.args.at)
     c.deref.ensures.value c.self.view_is c.in-Some.ensures c.index_mut.ensures.value
     (λ h. sym (ap (λ (b : Bool). cond b (record (row_of c.index_mut.result.now) { restored = Some c.args.at }) (row_of c.index_mut.result.now)) h))
 
 pub returns-in-None-clause-list : goal.returns-in-None-clause-list
 returns-in-None-clause-list c =
-    change_none c.self.inside.rows.items c.deref.result.now c.args.self.now _ c.args.job (restored_at c.args.job c.args.at) c.deref.ensures.value c.self.view_is c.in-None.ensures
+    change_none c.self.inside.rows.items c.deref.result.now c.args.self.now _ c.args.job (row_restored_at c.args.job c.args.at) c.deref.ensures.value c.self.view_is c.in-None.ensures

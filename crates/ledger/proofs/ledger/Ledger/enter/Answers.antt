@@ -1,4 +1,4 @@
-use Rattle.delf_model.specs.State.{after}
+use Rattle.delf_model.specs.Step.{after}
 use Rattle.ledger.proofs.Entering.{legal_in, ready_in, can_change, keeps_push}
 use Rattle.ledger.proofs.ledger.Ledger.enter.Goals as goal
 
