@@ -9,7 +9,7 @@ use Rattle.delf_model.specs.declared.rules.Broken.TheVariants.{ObjectTwice, Edge
 use Rattle.delf_model.specs.declared.rules.JudgeFault.{JudgeFault}
 use Rattle.delf_model.specs.declared.rules.JudgeFault.TheVariants.{Breaks, OutOfMemory}
 use Rattle.delf_model.specs.RuleSet.{RuleSet}
-use Rattle.delf_model.specs.Checked.{HasRoute, IsDistance, NoRow, LacksEnd, CondemnsUntaken, LacksRoute, KeepsRules, IsChecked, condemns, condemns_shape, takes, source_of, target_of, numbered}
+use Rattle.delf_model.specs.Checked.{HasRoute, IsDistance, NoRow, LacksEnd, CondemnsUntaken, LacksRoute, KeepsRules, IsChecked, may_condemn, shape_may_condemn, takes, source_of, target_of, numbered}
 use Rattle.delf_model.specs.Distances.{AreDistances}
 use Rattle.delf_model.specs.Broken.{IsFirstBroken, BreaksFirst, IsNumbersFault, IsJudgeFault, ObjectNamesOnce, EdgeNamesOnce}
 
@@ -26,11 +26,11 @@ module _ (rules : RuleSet) (distances : List (Option ℕ)) (exact : AreDistances
     taken = λ edge h. elim (cases_Bool (takes rules (target_of rules edge))) [ inl taken ↦ taken | inr not ↦ absurd (untaken edge (edge_within edge h) (h, not)) ];
     routes = λ kind h. route_unless kind (get_or distances kind None) (exact.each kind) (λ none. unrouted kind (slice_get_within rules.objects kind ByAny h) (h, none));
   } where
-    edge_within : (edge : ℕ) → condemns rules edge ≡ true → edge < length rules.edges
+    edge_within : (edge : ℕ) → may_condemn rules edge ≡ true → edge < length rules.edges
     edge_within edge h =
         elim (cases_lt edge (length rules.edges)) [
           | inl within ↦ within
-          | inr past ↦ absurd (false≢true (subst (λ o. condemns_shape o ≡ true) (slice_get_past rules.edges edge past) h))
+          | inr past ↦ absurd (false≢true (subst (λ o. shape_may_condemn o ≡ true) (slice_get_past rules.edges edge past) h))
         ]
 
 first_refutes_ends : (rules : RuleSet) (row : ℕ) → KeepsRules rules → row < length rules.edges → LacksEnd rules row → ⊥

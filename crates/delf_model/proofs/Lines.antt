@@ -1,7 +1,7 @@
 -- What a legal entry says of the state before it.
 use Rattle.std.proofs.Common.{◌≡◌, ℕ, ◌≤◌, Bool, true, false, cond, ◌&&◌, eqb, ltb, leb, List, [], ◌∷◌, Option, Some, None, refl}
 use Rattle.std.proofs.lemmas.Bool.{and_parts, eqb-true, false≢true, ltb-false, leb-true}
-use Rattle.std.specs.Prelude.{is_some, is_none}
+use Rattle.std.specs.Prelude.{is_some, is_none, if◌then◌else◌}
 use Rattle.delf_model.specs.declared.rows.ObjectRow.{ObjectRow}
 use Rattle.delf_model.specs.declared.rows.EdgeKey.{EdgeKey}
 use Rattle.delf_model.specs.declared.rows.EdgeRow.{EdgeRow}
@@ -13,7 +13,8 @@ use Rattle.delf_model.specs.Graph.{object_at, edge_at, edge_stands}
 use Rattle.delf_model.specs.State.{State, owner, owned}
 use Rattle.delf_model.specs.Step.{step, tag_of}
 use Rattle.delf_model.specs.Legal.{is_legal, is_allowed, is_tag, is_numbered}
-use Rattle.delf_model.specs.Room.{greatest_moment, payload_limit, room_limit, room, used, owed}
+use Rattle.delf_model.specs.Room.{greatest_moment, payload_limit, room_limit, room, used, owed, may_come}
+use Rattle.delf_model.specs.Order.{first_in_order, first_step}
 use Rattle.delf_model.specs.Reply.{first_refusal, too_long, absent, condemned, condemned_by, name_taken, name_taken_by, edge_taken, edge_taken_by, no_edge, full, pending}
 
 -- each of these is none
@@ -52,6 +53,32 @@ moment_not_before s e legal = leb-true s.moment e.moment (and_parts (leb s.momen
 
 pub moment_within : (s : State) (e : Entry) → is_legal s e ≡ true → e.moment ≤ greatest_moment
 moment_within s e legal = leb-true e.moment greatest_moment (and_parts (leb s.moment e.moment) (leb e.moment greatest_moment) (moments_of s e legal)).1
+
+-- the first step comes at a moment that may come, and there it is the first in order
+
+pub first_in : (s : State) (moment : ℕ) (what : What) → first_step s moment ≡ Some what →
+    (may_come s moment ≡ true) × (first_in_order s moment ≡ Some what)
+first_in s moment what found = by_guard (may_come s moment) refl found
+  where
+    by_guard : (b : Bool) → may_come s moment ≡ b → (if b then first_in_order s moment else None) ≡ Some what →
+        (may_come s moment ≡ true) × (first_in_order s moment ≡ Some what)
+    by_guard true may found = (may, found)
+    by_guard false may found = absurd (cc found)
+
+pub none_in : (s : State) (moment : ℕ) → first_step s moment ≡ None → may_come s moment ≡ true → first_in_order s moment ≡ None
+none_in s moment none may = by_guard (may_come s moment) may none
+  where
+    by_guard : (b : Bool) → b ≡ true → (if b then first_in_order s moment else None) ≡ None → first_in_order s moment ≡ None
+    by_guard true may none = none
+    by_guard false may none = absurd (false≢true may)
+
+pub may_come_parts : (s : State) (moment : ℕ) → may_come s moment ≡ true → (s.moment ≤ moment) × (moment ≤ greatest_moment)
+may_come_parts s moment may =
+    let parts = and_parts (leb s.moment moment) (leb moment greatest_moment) may in
+    (leb-true s.moment moment parts.0, leb-true moment greatest_moment parts.1)
+
+pub may_come_of : (s : State) (e : Entry) → is_legal s e ≡ true → may_come s e.moment ≡ true
+may_come_of s e legal = moments_of s e legal
 
 -- one fact for each refusal that does not hold
 

@@ -27,9 +27,9 @@ takes_rule (ShortTtl seconds) = true
 takes_rule rule = false
 
 -- the removal of the edge may condemn its target
-abbrev pub condemns_rule : EdgeRule → Bool
-condemns_rule Shallow = false
-condemns_rule rule = true
+abbrev pub rule_may_condemn : EdgeRule → Bool
+rule_may_condemn Shallow = false
+rule_may_condemn rule = true
 
 abbrev pub is_start_type : Option ObjectRule → Bool
 is_start_type (Some rule) = is_start_rule rule
@@ -39,9 +39,9 @@ abbrev pub takes_type : Option ObjectRule → Bool
 takes_type (Some rule) = takes_rule rule
 takes_type None = false
 
-abbrev pub condemns_shape : Option EdgeShape → Bool
-condemns_shape (Some shape) = condemns_rule shape.rule
-condemns_shape None = false
+abbrev pub shape_may_condemn : Option EdgeShape → Bool
+shape_may_condemn (Some shape) = rule_may_condemn shape.rule
+shape_may_condemn None = false
 
 abbrev pub shape_from : Option EdgeShape → ℕ
 shape_from shape = unwrap_or (option_map (λ shape. shape.from) shape) 0
@@ -58,8 +58,8 @@ abbrev pub takes : RuleSet → ℕ → Bool
 takes rules kind = takes_type (slice_get rules.objects kind)
 
 -- whether the edge type with this number is deep or refcount
-abbrev pub condemns : RuleSet → ℕ → Bool
-condemns rules edge = condemns_shape (slice_get rules.edges edge)
+abbrev pub may_condemn : RuleSet → ℕ → Bool
+may_condemn rules edge = shape_may_condemn (slice_get rules.edges edge)
 
 -- the number of the type that the edge type starts at, and of the type that it points at
 abbrev pub source_of : RuleSet → ℕ → ℕ
@@ -114,7 +114,7 @@ LacksTarget rules edge = length rules.objects ≤ target_of rules edge
 
 -- the edge type may condemn objects of a type that may not be condemned through an edge
 abbrev pub CondemnsUntaken : RuleSet → ℕ → Type 0
-CondemnsUntaken rules edge = IsTrue (condemns rules edge) × (takes rules (target_of rules edge) ≡ false)
+CondemnsUntaken rules edge = IsTrue (may_condemn rules edge) × (takes rules (target_of rules edge) ≡ false)
 
 -- an end of the edge type has no number of a type
 abbrev pub LacksEnd : RuleSet → ℕ → Type 0
@@ -139,7 +139,7 @@ LacksRoute rules kind = (slice_get rules.objects kind ≡ Some ByAny) × (HasRou
 pub record KeepsRules (rules : RuleSet) : Type 0 where
   pub sources : (edge : ℕ) → edge < length rules.edges → source_of rules edge < length rules.objects
   pub targets : (edge : ℕ) → edge < length rules.edges → target_of rules edge < length rules.objects
-  pub taken : (edge : ℕ) → IsTrue (condemns rules edge) → IsTrue (takes rules (target_of rules edge))
+  pub taken : (edge : ℕ) → IsTrue (may_condemn rules edge) → IsTrue (takes rules (target_of rules edge))
   pub routes : (kind : ℕ) → slice_get rules.objects kind ≡ Some ByAny → HasRoute rules kind
 
 -- the number of the object type with this name, and past the last one where none has it

@@ -99,12 +99,14 @@ purge_of found = option_map (λ row. Purge row.start) found
 abbrev pub first_purge : State → ℕ → Option What
 first_purge s moment = purge_of (find (purges s moment) s.jobs)
 
+-- the first of all four
+abbrev pub first_in_order : State → ℕ → Option What
+first_in_order s moment =
+    option_or (first_put s) (option_or (first_erasure s) (option_or (first_expiry s moment) (first_purge s moment)))
+
 -- the first legal step of the serial order; none at a moment at which no entry may come
 abbrev pub first_step : State → ℕ → Option What
-first_step s moment =
-    if may_come s moment
-    then option_or (first_put s) (option_or (first_erasure s) (option_or (first_expiry s moment) (first_purge s moment)))
-    else None
+first_step s moment = if may_come s moment then first_in_order s moment else None
 
 -- two steps that erase the same row, whichever job they name
 abbrev pub erases_same : What → What → Bool

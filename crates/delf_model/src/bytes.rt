@@ -1,3 +1,4 @@
+//! The bytes of a payload, or of any text.
 ghost use Rattle.std.specs.Prelude.{◌≡◌, IfOk, length, nat_eq};
 
 use std::alloc::{AllocError, Global};

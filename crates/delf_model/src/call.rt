@@ -1,3 +1,4 @@
+//! The calls of writers, and what they are answered.
 use crate::bytes::Bytes;
 use crate::ids::{EdgeNo, Job, JobName, Moment, ObjectId, TypeNo};
 use crate::rows::Item;

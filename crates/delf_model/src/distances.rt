@@ -1,3 +1,4 @@
+//! The lengths of the shortest routes, found by a search over the edge types.
 ghost use Rattle.std.specs.Prelude.{◌≡◌, ◌<◌, ◌≤◌, ◌+◌, ◌-◌, ◌↔◌, IfOk, IsTrue, length, map, false, None, slice_index_or};
 ghost use Rattle.delf_model.specs.Checked.{NoRow, LacksEnd};
 ghost use Rattle.delf_model.specs.Distances.{AreDistances, AreDistancesBelow, BeginsRoute, Extends, start_distance, unknown_count};

@@ -1,3 +1,4 @@
+//! The entries of a history.
 use crate::ids::{EdgeNo, Job, Moment, ObjectId, TypeNo};
 
 /// The seat that made a call, and the number of that seat's earlier entries.

@@ -1,3 +1,4 @@
+//! What a store of graph rows promises.
 ghost use Rattle.std.specs.Prelude.{◌≡◌, ℕ, ◌<◌, ◌^◌, Bool, true, false, ◌||◌, nat_eq, IsTrue, IfOk, OnOk, OnErr, List, length, filter, slice_get, Some, None, Option, is_some, count_by, find};
 ghost use Rattle.delf_model.specs.declared.rows.ObjectRow.{ObjectRow};
 ghost use Rattle.delf_model.specs.declared.rows.EdgeRow.{EdgeRow};

@@ -1,3 +1,4 @@
+//! Ids, numbers of types, jobs and moments.
 ghost use Rattle.std.specs.Prelude.{◌≡◌, ◌↔◌, ◌<◌, ◌≤◌, IsSome, IfSome};
 
 use std::marker::Model;

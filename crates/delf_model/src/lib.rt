@@ -34,3 +34,12 @@ pub use spellable::is_spellable;
 
 /// The greatest size of a payload in bytes.
 pub const LIMIT: usize = 512;
+
+/// The greatest moment, in seconds.
+pub const GREATEST_MOMENT: Moment = 999_999_999_999;
+
+/// The greatest room of a history: the entries that are there, and those that may still be owed.
+pub const ROOM_LIMIT: u32 = 500_000;
+
+/// The greatest size of a record's head in bytes.
+pub const HEAD_LIMIT: usize = 128;

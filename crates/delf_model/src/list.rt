@@ -1,3 +1,4 @@
+//! A list that owns its elements, as contracts see it.
 ghost use Rattle.std.specs.Prelude.{◌≡◌, ◌++◌, ◌∷◌, [], OnOk, OnErr, length, nat_eq};
 
 use std::alloc::{AllocError, Global};

@@ -1,7 +1,8 @@
+//! A schema with its types by number.
 ghost use Rattle.std.specs.Prelude.{◌≡◌, ◌≤◌, IfOk, MatchOption, length, map, slice_get};
 ghost use Rattle.std.specs.List.{position_or_len};
 ghost use Rattle.std.specs.Str.{bytes_eq};
-ghost use Rattle.delf_model.specs.Checked.{number_of, shape_of, numbered, NoRow, IsFirstRowOrNone, IsRepeated, LacksEnd, IsFirstUndeclared, CondemnsUntaken, is_start_rule, takes_rule, condemns_rule};
+ghost use Rattle.delf_model.specs.Checked.{number_of, shape_of, numbered, NoRow, IsFirstRowOrNone, IsRepeated, LacksEnd, IsFirstUndeclared, CondemnsUntaken, is_start_rule, takes_rule, rule_may_condemn};
 
 use crate::ids::TypeNo;
 use crate::name::Name;
@@ -137,7 +138,7 @@ fn takes_edges(rule: ObjectRule) -> bool
 
 /// Whether the removal of an edge with this annotation may condemn its target.
 fn may_condemn(rule: EdgeRule) -> bool
-    ensures { result ≡ condemns_rule rule }
+    ensures { result ≡ rule_may_condemn rule }
 {
     match rule {
         EdgeRule::Deep | EdgeRule::Refcount => true,

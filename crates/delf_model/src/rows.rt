@@ -1,3 +1,7 @@
+//! The rows of a graph, and the items that a job logs of them.
+ghost use Rattle.std.specs.Prelude.{◌≡◌};
+ghost use Rattle.delf_model.specs.State.{job_of, position_of, size_of};
+
 use crate::ids::{EdgeNo, Job, Moment, ObjectId, TypeNo};
 
 /// An object of the graph.
@@ -46,4 +50,35 @@ pub enum Item {
         from_birth: u32,
         to_birth: u32,
     },
+}
+
+impl Item {
+    /// The job that took the row.
+    pub fn job(&self) -> Job
+        ensures { result ≡ job_of self.now }
+    {
+        match self {
+            Item::Object { job, .. } | Item::Edge { job, .. } => *job,
+        }
+    }
+
+    /// The position of the entry that gave the row its payload.
+    pub fn position(&self) -> u32
+        ensures { result ≡ position_of self.now }
+    {
+        match self {
+            Item::Object { row, .. } => row.at,
+            Item::Edge { row, .. } => row.birth,
+        }
+    }
+
+    /// The size of the row's payload in bytes.
+    pub fn size(&self) -> u16
+        ensures { result ≡ size_of self.now }
+    {
+        match self {
+            Item::Object { row, .. } => row.size,
+            Item::Edge { row, .. } => row.size,
+        }
+    }
 }

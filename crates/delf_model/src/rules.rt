@@ -1,3 +1,4 @@
+//! Checked annotations by number, and their routes.
 ghost use Rattle.std.specs.Prelude.{◌≡◌, ◌≤◌, IfOk, IfErr, length, slice_get};
 ghost use Rattle.delf_model.specs.Checked.{KeepsRules, IsChecked, IsDistance, IsSpellable, IsFirstRowOrNone, LacksRoute, numbered};
 ghost use Rattle.delf_model.specs.Distances.{AreDistances};

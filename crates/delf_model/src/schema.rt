@@ -1,3 +1,4 @@
+//! A schema as it is written.
 use crate::ids::TypeNo;
 use crate::list::List;
 use crate::name::Name;

@@ -1,3 +1,4 @@
+//! The commands of a document.
 use crate::call::Call;
 use crate::ids::{JobName, ObjectId};
 use crate::list::List;

@@ -1,3 +1,4 @@
+//! Whether a schema can be spelled as a document.
 ghost use Rattle.std.specs.Prelude.{◌↔◌, IsTrue};
 ghost use Rattle.delf_model.specs.Checked.{IsExpiry, IsSpellable};
 

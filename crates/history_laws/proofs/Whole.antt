@@ -26,5 +26,5 @@ legal_is_sound rules history legal = record {
 }
 
 pub first_step : (rules : RuleSet) (history : List Entry) (moment : ℕ) → Legal rules history →
-    (after rules history).moment ≤ moment → moment ≤ greatest_moment → FirstIsLegal (after rules history) moment
-first_step rules history moment legal later within = first_is_legal rules history moment legal later within
+    FirstIsLegal (after rules history) moment
+first_step rules history moment legal = first_is_legal rules history moment legal

@@ -26,5 +26,5 @@ pub fn legal_is_sound()
 #[tactic(auto, using(crate::proofs::Whole::first_step))]
 pub fn first_step_is_legal()
     ensures { (rules : RuleSet) (history : List Entry) (moment : ℕ) → Legal rules history →
-        (after rules history).moment ≤ moment → moment ≤ greatest_moment → FirstIsLegal (after rules history) moment }
+        FirstIsLegal (after rules history) moment }
 {}

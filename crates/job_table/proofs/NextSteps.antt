@@ -14,6 +14,7 @@ use Rattle.delf_model.specs.Legal.{is_legal, is_allowed, is_due_row, may_put, ma
 use Rattle.delf_model.specs.Room.{greatest_moment}
 use Rattle.delf_model.specs.Order.{is_step, is_legal_step, is_held, is_restoring, is_oldest_restoring, is_no_older, last_place, put_of, put_of_job, first_put, owns_some, first_erasure, erasure_of_pair, erasure_of_job, cut_or_erase, expires, expiry_of, first_expiry, purges, purge_of, first_purge, first_step}
 use Rattle.delf_model.proofs.Places.{may_put_of}
+use Rattle.delf_model.proofs.Lines.{first_in}
 use Rattle.job_table.specs.declared.next.Next.{Next}
 use Rattle.job_table.specs.declared.next.Next.TheVariants.{Expire, Cut, Erase, Put, Purge, Idle, Held}
 use Rattle.job_table.specs.Table.{Table, IsTableOf, Keeps}
@@ -124,7 +125,7 @@ purge_is s moment w e = go (find (purges s moment) s.jobs) refl e
 
 pub first_is_step : (s : State) (moment : ℕ) (w : What) → first_step s moment ≡ Some w → is_step w ≡ true
 first_is_step s moment w e =
-    elim (first_cases (first_put s) _ w e) [
+    elim (first_cases (first_put s) _ w (first_in s moment w e).1) [
       | inl put ↦ (put_is s w put).0
       | inr later ↦
           elim (first_cases (first_erasure s) _ w later.1) [
@@ -140,7 +141,7 @@ first_is_step s moment w e =
 -- where the first step is held no put comes first
 no_first_put : (s : State) (moment : ℕ) (held : List What) → IsFirstHeld s moment held → first_put s ≡ None
 no_first_put s moment held f =
-    elim (first_cases (first_put s) _ f.0 f.1) [
+    elim (first_cases (first_put s) _ f.0 (first_in s moment f.0 f.1).1) [
       | inl put ↦ absurd (let z = (put_is s f.0 put).1 held in let h = f.3 in cc (z, h))
       | inr later ↦ later.0
     ]

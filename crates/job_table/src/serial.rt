@@ -2,6 +2,7 @@ ghost use Rattle.std.specs.Prelude.{◌≡◌, ◌<◌, ◌≤◌, ◌^◌, None
 ghost use Rattle.std.specs.List.{position};
 ghost use Rattle.delf_model.specs.State.{State};
 ghost use Rattle.std.specs.Option.{option_or};
+ghost use Rattle.delf_model.specs.Room.{may_come as may_come_in};
 ghost use Rattle.delf_model.specs.Order.{first_put as put_of_state, first_erasure as erasure_of_state, first_expiry as expiry_of_state, first_purge as purge_of_state, first_step, put_of as put_of_place, last_place, cut_or_erase as cut_or_erase_of};
 ghost use Rattle.job_table.specs.Table.{IsTableOf, IsGraphOf};
 ghost use Rattle.job_table.specs.Apart.{are_apart};
@@ -16,7 +17,7 @@ use crate::items::Items;
 use crate::jobs::{Row, is_past};
 use crate::owners::Owners;
 use crate::table::JobTable;
-use delf_model::{EdgeRow, GraphStore, Job, Moment, ObjectId, Rules, What};
+use delf_model::{EdgeRow, GREATEST_MOMENT, GraphStore, Job, Moment, ObjectId, Rules, What};
 
 /// How many items of the job are neither put back nor listed, where it has a Restore.
 fn left(items: &Items, row: &Row) -> u32
@@ -87,15 +88,25 @@ pub(crate) fn cut(job: Job, row: &EdgeRow) -> What
 }
 
 impl JobTable {
-    /// The first legal step of the serial order at this moment, whatever steps are held; None where no step is legal.
-    /// Takes no memory.
+    /// The first legal step of the serial order at this moment, whatever steps are held; None where no step is legal, as
+    /// at a moment at which no entry may come. Takes no memory.
     pub fn first<G: GraphStore>(&self, graph: &G, rules: &Rules, moment: Moment) -> Option<What>
         ensures { (s : State) → IsTableOf s self.now → IsGraphOf s (G.graph graph.now) (G.counts graph.now) rules.now → result ≡ first_step s moment }
     {
+        if !self.may_come(moment) {
+            return None;
+        }
         match self.first_put() {
             Some(step) => Some(step),
             None => self.first_but_put(graph, rules, moment),
         }
+    }
+
+    /// Whether an entry may come at this moment: not before the last one, and at most the greatest.
+    fn may_come(&self, moment: Moment) -> bool
+        ensures { (s : State) → IsTableOf s self.now → result ≡ may_come_in s moment }
+    {
+        self.moment() <= moment && moment <= GREATEST_MOMENT
     }
 
     fn first_but_put<G: GraphStore>(&self, graph: &G, rules: &Rules, moment: Moment) -> Option<What>

@@ -227,7 +227,7 @@ impl<G: GraphStore> Ledger<G> {
     /// The first legal step of the serial order at this moment, whatever steps are held; None where no step is legal.
     pub fn first_step(&self, moment: Moment) -> Option<What>
         ensures step { result ≡ first_step (state_of self.now) moment }
-        ensures legal { (state_of self.now).moment ≤ moment → moment ≤ greatest_moment → FirstIsLegal (state_of self.now) moment }
+        ensures legal { FirstIsLegal (state_of self.now) moment }
     {
         first_step_is_legal();
         self.jobs.first(&self.graph, &self.rules, moment)
@@ -237,7 +237,7 @@ impl<G: GraphStore> Ledger<G> {
     /// that is not held. `Idle` where no step is legal, `Held` where every legal step is held. Takes no memory.
     pub fn next(&self, moment: Moment) -> Next
         ensures serial { self.now.held ≡ [] → IsSerial (state_of self.now) moment result }
-        ensures free { (state_of self.now).moment ≤ moment → moment ≤ greatest_moment → IsFreeNext (state_of self.now) moment self.now.held result }
+        ensures free { IsFreeNext (state_of self.now) moment self.now.held result }
     {
         first_step_is_legal();
         self.jobs.next(&self.graph, &self.rules, moment)

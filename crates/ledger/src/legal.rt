@@ -6,12 +6,11 @@ ghost use Rattle.delf_model.specs.Legal.{is_legal as is_legal_entry, is_allowed 
 ghost use Rattle.delf_model.specs.Room.{greatest_moment};
 ghost use Rattle.job_table.specs.Table.{IsTableOf, IsGraphOf};
 
-use delf_model::{EdgeKey, Entry, GraphStore, Job, Moment, ObjectId, Rules, Tag, What};
+use delf_model::{
+    EdgeKey, Entry, GREATEST_MOMENT, GraphStore, Job, Moment, ObjectId, Rules, Tag, What,
+};
 use job_table::JobTable;
 use live_writes::{refused_create, refused_delete, refused_link, refused_unlink, refused_update};
-
-/// The greatest moment.
-const GREATEST_MOMENT: Moment = 999_999_999_999;
 
 /// The moment of an entry that is made when the clock says `now`.
 pub fn moment_at(last: Moment, now: Moment) -> Moment

@@ -20,8 +20,9 @@ use Rattle.delf_model.specs.Step.{after}
 use Rattle.delf_model.specs.Owners.{key_of}
 use Rattle.std.specs.Option.{option_or}
 use Rattle.delf_model.specs.Legal.{is_legal, is_allowed, Legal, is_due_row, may_put, may_purge, may_expire, is_end_item, is_handled_end, end_handled, ends_handled}
-use Rattle.delf_model.specs.Room.{greatest_moment}
-use Rattle.delf_model.specs.Order.{is_step, is_legal_step, is_restoring, is_oldest_restoring, is_no_older, is_restored_by, last_place, put_of, put_of_job, first_put, owns_some, cut_or_erase, erasure_of_pair, erasure_of_job, first_erasure, expires, expiry_of, first_expiry, purges, purge_of, first_purge, first_step}
+use Rattle.delf_model.specs.Room.{greatest_moment, may_come}
+use Rattle.delf_model.proofs.Lines.{first_in, none_in, may_come_parts, may_come_of}
+use Rattle.delf_model.specs.Order.{is_step, is_legal_step, is_restoring, is_oldest_restoring, is_no_older, last_place, put_of, put_of_job, first_put, owns_some, cut_or_erase, erasure_of_pair, erasure_of_job, first_erasure, expires, expiry_of, first_expiry, purges, purge_of, first_purge, first_in_order, first_step}
 use Rattle.delf_model.specs.Sound.{FirstIsLegal}
 use Rattle.delf_model.proofs.Graphs.{same_key_refl}
 use Rattle.delf_model.proofs.Leaves.{owner_is}
@@ -623,7 +624,7 @@ refuted true no_way = absurd (no_way refl)
 refuted false no_way = refl
 
 -- nothing is legal where there is no first step
-none_allowed : (s : State) (moment : ℕ) (what : What) → Ordered s → first_step s moment ≡ None → is_step what ≡ true → is_allowed s moment what ≡ true → ⊥
+none_allowed : (s : State) (moment : ℕ) (what : What) → Ordered s → first_in_order s moment ≡ None → is_step what ≡ true → is_allowed s moment what ≡ true → ⊥
 none_allowed s moment what ordered none step line =
     let puts = none_left (first_put s) _ none in
     let erasures = none_left (first_erasure s) _ puts.1 in
@@ -647,6 +648,11 @@ none_allowed s moment what ordered none step line =
     by_what (Put job i) step line a b c d = no_put s job i ordered a line
     by_what (Purge job) step line a b c d = no_purge s moment job d line
 
+come_of : (s : State) (moment : ℕ) (what : What) → is_legal_step s moment what ≡ true → may_come s moment ≡ true
+come_of s moment what is =
+    may_come_of s (record { moment = moment; what = what })
+    (and_parts (is_step what) (is_legal s (record { moment = moment; what = what })) is).1
+
 allowed_part : (s : State) (moment : ℕ) (what : What) → is_legal_step s moment what ≡ true → (is_step what ≡ true) × (is_allowed s moment what ≡ true)
 allowed_part s moment what is =
     let parts = and_parts (is_step what) (is_legal s (record { moment = moment; what = what })) is in
@@ -656,7 +662,7 @@ first_cases : {A : Type 0} (a b : Option A) (x : A) → option_or a b ≡ Some x
 first_cases None b x is = inr is
 first_cases (Some y) b x is = inl is
 
-first_allowed : (s : State) (moment : ℕ) → Ordered s → (what : What) → first_step s moment ≡ Some what → (is_step what ≡ true) × (is_allowed s moment what ≡ true)
+first_allowed : (s : State) (moment : ℕ) → Ordered s → (what : What) → first_in_order s moment ≡ Some what → (is_step what ≡ true) × (is_allowed s moment what ≡ true)
 first_allowed s moment ordered what found =
     elim (first_cases (first_put s) _ what found) [
       | inl put ↦ (let both = put_found s ordered what put in (both.0, both.1 moment))
@@ -671,12 +677,17 @@ first_allowed s moment ordered what found =
           ]
     ]
 
-pub first_is_legal : (rules : RuleSet) (h : List Entry) (moment : ℕ) → Legal rules h → (after rules h).moment ≤ moment → moment ≤ greatest_moment → FirstIsLegal (after rules h) moment
-first_is_legal rules h moment legal later within = record {
+pub first_is_legal : (rules : RuleSet) (h : List Entry) (moment : ℕ) → Legal rules h → FirstIsLegal (after rules h) moment
+first_is_legal rules h moment legal = record {
   legal = λ what found.
-      let both = first_allowed (after rules h) moment (ordered_after rules h legal) what found in
-      step_parts (after rules h) moment what later within both.0 both.1;
+      let come = first_in (after rules h) moment what found in
+      let time = may_come_parts (after rules h) moment come.0 in
+      let both = first_allowed (after rules h) moment (ordered_after rules h legal) what come.1 in
+      step_parts (after rules h) moment what time.0 time.1 both.0 both.1;
   none = λ none what.
       refuted (is_legal_step (after rules h) moment what)
-      (λ is. let both = allowed_part (after rules h) moment what is in none_allowed (after rules h) moment what (ordered_after rules h legal) none both.0 both.1);
+      (λ is.
+      let both = allowed_part (after rules h) moment what is in
+      none_allowed (after rules h) moment what (ordered_after rules h legal)
+      (none_in (after rules h) moment none (come_of (after rules h) moment what is)) both.0 both.1);
 }

@@ -7,7 +7,7 @@ use Rattle.std.proofs.lemmas.List.Elements.{All-nil, All-cons, All-append}
 use Rattle.delf_model.specs.declared.schema.ObjectRule.TheVariants.{Directly, ByAny}
 use Rattle.delf_model.specs.declared.schema.EdgeRule.TheVariants.{Deep, Shallow, Refcount}
 use Rattle.delf_model.specs.RuleSet.{RuleSet}
-use Rattle.delf_model.specs.Checked.{KeepsRules, IsChecked, IsRepeated, HasRoute, condemns, takes, source_of, target_of, object_names, edge_names, numbered}
+use Rattle.delf_model.specs.Checked.{KeepsRules, IsChecked, IsRepeated, HasRoute, may_condemn, takes, source_of, target_of, object_names, edge_names, numbered}
 use Rattle.delf_model.specs.declared.schema.Schema.{Schema}
 use Rattle.delf_model.specs.declared.script.Command.{Command}
 use Rattle.delf_model.specs.declared.script.Command.TheVariants.{Submit, Work, Tick, Get, Show, Job, Jobs, Report, Fail, Crash, Par}
@@ -70,7 +70,7 @@ targets (suc (suc zero)) below = omega arith
 targets (suc (suc (suc zero))) below = omega arith
 targets (suc (suc (suc (suc k)))) below = absurd (omega arith)
 
-taken : (edge : ℕ) → IsTrue (condemns generated_rules edge) → IsTrue (takes generated_rules (target_of generated_rules edge))
+taken : (edge : ℕ) → IsTrue (may_condemn generated_rules edge) → IsTrue (takes generated_rules (target_of generated_rules edge))
 taken zero is = refl
 taken (suc zero) is = absurd (false≢true is)
 taken (suc (suc zero)) is = refl

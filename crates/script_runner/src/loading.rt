@@ -27,13 +27,10 @@ use crate::store::Store;
 use delf_book::{Book, BookFault};
 use delf_disk::Rig;
 use delf_io::{Clock, Sink};
-use delf_model::{Bytes, Command, Moment, Schema};
+use delf_model::{Bytes, Command, GREATEST_MOMENT, Moment, Schema};
 use job_report::load_line;
 use live_graph::ListGraph;
 use std::alloc::{AllocError, Global};
-
-/// The greatest moment.
-const GREATEST_MOMENT: Moment = 999_999_999_999;
 
 /// Makes a load of `n` objects, 8 to 20,000, over the store on `rig`, at the moment that the clock answers, and puts its line
 /// to `sink`. The disk comes back.

@@ -33,7 +33,7 @@ use crate::words::{Request, Start, read_words};
 use delf_book::BookFault;
 use delf_disk::{Area, Rig};
 use delf_io::{Clock, Sink, Source};
-use delf_model::{Bytes, Command, Moment, Schema};
+use delf_model::{Bytes, Command, GREATEST_MOMENT, Moment, Schema};
 use delf_recovery::OpenFault;
 use job_report::{bad_journal_line, bad_vault_line, down_line, fault_line, opened_line};
 use script_lang::DocumentFault;
@@ -41,9 +41,6 @@ use std::alloc::{AllocError, Global};
 
 /// The greatest number of bytes that are read: one more than a document has.
 pub const READ_LIMIT: usize = 16_777_217;
-
-/// The greatest moment.
-const GREATEST_MOMENT: Moment = 999_999_999_999;
 
 /// Runs the program with these words. `run` reads a document from `source`, opens the store on `rig`, makes the commands, and
 /// puts their lines to `sink`; the moment of the start is the one that the words give, or the clock's answer, which is asked

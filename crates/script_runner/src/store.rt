@@ -17,13 +17,10 @@ ghost use Rattle.script_runner.specs.Standing.{Carries};
 
 use delf_book::Book;
 use delf_disk::Rig;
-use delf_model::{Moment, Rules, Schema};
+use delf_model::{GREATEST_MOMENT, Moment, Rules, Schema};
 use delf_recovery::{OpenFault, open_book};
 use live_graph::ListGraph;
 use std::alloc::Global;
-
-/// The greatest moment.
-const GREATEST_MOMENT: Moment = 999_999_999_999;
 
 /// What a script runs against: a book over its disk, and the moment of the clock at which calls are made.
 pub(crate) struct Store<R: Rig> {
