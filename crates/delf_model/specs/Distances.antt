@@ -1,4 +1,4 @@
--- The lengths of shortest routes, as a search finds them.
+-- What the search for shortest routes keeps while it runs; no public contract speaks of it.
 use Rattle.std.specs.Prelude.{if◌then◌else◌, ◌≡◌, ◌<◌, ◌≤◌, ◌-◌, ℕ, List, Option, None, Some, IsSome, length}
 use Rattle.std.specs.List.{slice_index_or, slice_set, sum_by}
 use Rattle.delf_model.specs.declared.schema.ObjectRule.{ObjectRule}

@@ -14,7 +14,7 @@ pub mod Closure
 pub mod Sound
 pub mod Checked
 pub mod Broken
-pub mod Distances
 pub mod Names
 pub mod Store
 pub mod Worked
+pub mod Distances
