@@ -2,15 +2,11 @@
 #![tactic(auto)]
 
 mod backs;
-#[cfg(test)]
-mod drive;
 mod edit;
 mod entries;
 mod ledger;
 mod legal;
 mod spelling;
-#[cfg(test)]
-mod tests;
 
 pub use ledger::Ledger;
 pub use legal::moment_at;

@@ -3,28 +3,20 @@
 
 mod answers;
 mod check;
-#[cfg(test)]
-mod check_tests;
 mod document;
 mod faults;
 mod jobs;
 mod load;
-#[cfg(test)]
-mod load_tests;
 mod loading;
 mod names;
 mod put;
 mod read;
 mod readings;
-#[cfg(test)]
-mod rows;
 mod run;
 mod script;
 mod shows;
 mod status;
 mod store;
-#[cfg(test)]
-mod tests;
 mod words;
 
 pub use document::{Document, read_document};

@@ -1,7 +1,7 @@
 //! What `check` prints, and how it ends.
 
-use crate::Status;
-use crate::tests::run_words;
+use crate::runs::run_words;
+use script_runner::Status;
 use std::alloc::Global;
 use std::process::Abort;
 use std::test::Fail;

@@ -3,11 +3,11 @@
 ghost use Rattle.std.specs.Prelude.{◌<◌};
 
 use crate::drive::{Answer, Order, answer_to, id};
-use crate::ledger::Ledger;
 use delf_model::{
     Cause, EdgeNo, EdgeRule, EdgeType, Job, JobLine, JobName, List, Moment, Name, ObjectId,
     ObjectRule, ObjectType, Refusal, Rules, Schema, Status, TypeNo, What, is_spellable,
 };
+use ledger::Ledger;
 use live_graph::ListGraph;
 use std::alloc::Global;
 use std::process::Abort;

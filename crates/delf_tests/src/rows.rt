@@ -1,8 +1,8 @@
 //! Worked rows over a store: what a script prints, what the areas hold, and what a store is answered that is none.
 
-use crate::{Status, run_plain};
 use delf_disk::{Area, Bytes as DiskBytes, Disk, MemDisk, Numbers as DiskNumbers};
 use delf_io::{Bytes, ListClock, MemSink, MemSource, Numbers};
+use script_runner::{Status, run_plain};
 use std::alloc::{AllocError, Global};
 use std::process::Abort;
 use std::test::Fail;

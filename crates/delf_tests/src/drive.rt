@@ -2,13 +2,12 @@
 ghost use Rattle.std.specs.Prelude.{◌≡◌, IsTrue};
 ghost use Rattle.ledger.specs.Ledgers.{is_numbered_call};
 
-use crate::ledger::Ledger;
-use crate::legal::moment_at;
 use delf_model::{
     Bytes, Call, Cause, EdgeKey, EdgeNo, Entry, GraphStore, Job, JobLine, JobName, Moment,
     ObjectId, Refusal, Rules, Status, TypeNo, What,
 };
 use job_table::Next;
+use ledger::{Ledger, moment_at};
 use std::alloc::{AllocError, Global};
 use std::test::Fail;
 

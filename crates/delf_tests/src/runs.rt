@@ -1,8 +1,8 @@
 //! That a run with ample memory ends by its causes alone, and prints what it is to print.
 
-use crate::{Status, run_plain};
 use delf_disk::{Bytes as DiskBytes, MemDisk, Numbers as DiskNumbers};
 use delf_io::{Bytes, ListClock, MemSink, MemSource, Numbers};
+use script_runner::{Status, run_plain};
 use std::alloc::{AllocError, Global};
 use std::process::Abort;
 use std::test::Fail;
@@ -48,7 +48,7 @@ pub fn run_words(
 }
 
 // That the script under the schema is made to its end, and prints this text.
-fn prints(
+pub fn prints(
     rt: &impl Abort,
     alloc: Global,
     schema: &str,

@@ -1,9 +1,9 @@
 //! What `load N` prints, and how it ends.
 
-use crate::tests::run_words;
-use crate::{Status, run_plain};
+use crate::runs::run_words;
 use delf_disk::{Bytes as DiskBytes, MemDisk, Numbers as DiskNumbers};
 use delf_io::{Bytes, ListClock, MemSink, MemSource, Numbers};
+use script_runner::{Status, run_plain};
 use std::alloc::{AllocError, Global};
 use std::process::Abort;
 use std::test::Fail;
