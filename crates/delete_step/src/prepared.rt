@@ -4,6 +4,7 @@ ghost use Rattle.entry_codec.specs.ItemHead.{IsItemHead};
 ghost use Rattle.delete_step.specs.Records.{head_of};
 
 use crate::claim::Claim;
+use delf_model::HEAD_LIMIT;
 use entry_codec::write_item;
 use sha2::{Digest, Sha256};
 use std::marker::Model;
@@ -13,7 +14,7 @@ use std::marker::Model;
 #[derive(Drop)]
 pub struct Prepared {
     claim: Claim,
-    head: [u8; 128],
+    head: [u8; HEAD_LIMIT],
     head_len: u16,
 }
 
@@ -33,7 +34,7 @@ impl Model for Prepared {
 pub fn prepare(claim: Claim) -> Prepared
     ensures { result ≡ claim }
 {
-    let mut head = [0; 128];
+    let mut head = [0; HEAD_LIMIT];
     let digest = Sha256::digest(claim.payload());
     let head_len = write_item(claim.item(), &digest, &mut head);
     Prepared {

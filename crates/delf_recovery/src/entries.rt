@@ -11,7 +11,7 @@ ghost use Rattle.delf_recovery.specs.Reading.{CountsRead, IsRead, IsNoEntry, Jud
 use crate::fault::OpenFault;
 use delf_book::Fold;
 use delf_disk::{Disk, Failed};
-use delf_model::{Entry, GraphStore};
+use delf_model::{Entry, GraphStore, HEAD_LIMIT};
 use entry_codec::read_entry;
 use gate_log::GateLog;
 
@@ -37,10 +37,10 @@ pub(crate) fn entry_at<D: Disk>(
     ensures cause { HasCause (D.faults disk.old) (D.faults disk.new) result }
 {
     let (head, payload) = log.sizes(i);
-    if head > 128 {
+    if head as usize > HEAD_LIMIT {
         return Ok(None);
     }
-    let mut buf = [0; 128];
+    let mut buf = [0; HEAD_LIMIT];
     let len = log.read_front_head(disk, i, &mut buf)?;
     Ok(read_entry(&buf[..len as usize], u64::from(payload)))
 }

@@ -13,7 +13,7 @@ ghost use Rattle.delf_recovery.specs.Reading.{JudgesItem, ReadsItems, EndsUnspel
 
 use delf_book::Fold;
 use delf_disk::{Disk, Failed};
-use delf_model::{GraphStore, Item};
+use delf_model::{GraphStore, HEAD_LIMIT, Item};
 use entry_codec::write_item;
 use gate_log::GateLog;
 
@@ -54,14 +54,14 @@ pub(crate) fn is_item_at<D: Disk>(
     ensures cause { HasCause (D.faults disk.old) (D.faults disk.new) result }
 {
     let (head, payload) = log.sizes(i);
-    if head > 128 || head < 32 || payload != size_of(item) {
+    if head as usize > HEAD_LIMIT || head < 32 || payload != size_of(item) {
         return Ok(false);
     }
-    let mut found = [0; 128];
+    let mut found = [0; HEAD_LIMIT];
     let len = log.read_front_head(disk, i, &mut found)? as usize;
     let mut digest = [0; 32];
     digest.copy_from_slice(&found[len - 32..len]);
-    let mut wanted = [0; 128];
+    let mut wanted = [0; HEAD_LIMIT];
     let wanted_len = write_item(item, &digest, &mut wanted) as usize;
     Ok(same_bytes(&found[..len], &wanted[..wanted_len]))
 }

@@ -12,10 +12,7 @@ ghost use Rattle.job_table.specs.Allowed.{is_still, can_restore, can_purge};
 use crate::items::Kept;
 use crate::jobs::{Row, is_past};
 use crate::table::JobTable;
-use delf_model::{Item, Job, Moment, Status};
-
-/// The greatest number of entries that are made and owed.
-const ROOM: u32 = 500_000;
+use delf_model::{Item, Job, Moment, ROOM_LIMIT, Status};
 
 pub(crate) fn job_of(item: &Item) -> Job
     ensures { result ≡ job_of_item item.now }
@@ -106,7 +103,7 @@ impl JobTable {
     fn has_room(&self, job: Job) -> bool
         ensures { (s : State) → IsTableOf s self.now → result ≡ nat_le (s.len + 1 + (owed s + sum_by (weight_of job) s.items)) 500000 }
     {
-        self.len as u64 + 1 + self.owed as u64 + self.items.weight(job) as u64 <= ROOM as u64
+        self.len as u64 + 1 + self.owed as u64 + self.items.weight(job) as u64 <= ROOM_LIMIT as u64
     }
 
     fn is_open(&self, kept: &Kept) -> bool

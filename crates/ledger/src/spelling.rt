@@ -4,7 +4,7 @@ ghost use Rattle.entry_codec.specs.EntryHead.{IsEntry};
 ghost use Rattle.delf_model.specs.State.{State};
 ghost use Rattle.delf_model.specs.Legal.{is_legal};
 
-use delf_model::{Entry, Rules};
+use delf_model::{Entry, HEAD_LIMIT, Rules};
 use entry_codec::write_entry;
 
 /// Spells a legal entry, of which no more is needed than that it can be done.
@@ -13,6 +13,6 @@ pub(crate) fn spell(rules: &Rules, entry: &Entry)
     ensures { IsEntry entry.now }
 {
     let _kinds = rules.objects_len();
-    let mut head = [0; 128];
+    let mut head = [0; HEAD_LIMIT];
     let _len = write_entry(entry, &mut head);
 }

@@ -12,13 +12,10 @@ ghost use Rattle.delf_model.specs.Reply.{too_long as is_too_long, absent as is_a
 ghost use Rattle.job_table.specs.Table.{IsTableOf, IsGraphOf};
 
 use delf_model::{
-    EdgeKey, EdgeNo, EdgeRule, GraphStore, JobName, LIMIT, ObjectId, ObjectRule, Refusal, Rules,
-    TypeNo,
+    EdgeKey, EdgeNo, EdgeRule, GraphStore, JobName, LIMIT, ObjectId, ObjectRule, ROOM_LIMIT,
+    Refusal, Rules, TypeNo,
 };
 use job_table::JobTable;
-
-/// The greatest sum of entries made and entries owed.
-const ROOM_LIMIT: u64 = 500_000;
 
 pub fn too_long(size: usize) -> Option<Refusal>
     ensures { result ≡ is_too_long size }
@@ -183,7 +180,7 @@ pub fn full(jobs: &JobTable, more: u64) -> Option<Refusal>
     ensures { (s : State) (moment : ℕ) (what : What) → IsTableOf s jobs.now → owed (step s (record { moment = moment; what = what })) ≡ owed s + more → result ≡ is_full s moment what }
 {
     let (used, owed) = jobs.room();
-    if u64::from(used) + 1 + u64::from(owed) + more > ROOM_LIMIT {
+    if u64::from(used) + 1 + u64::from(owed) + more > u64::from(ROOM_LIMIT) {
         return Some(Refusal::Full { used, owed });
     }
     None
