@@ -7,7 +7,7 @@ use Rattle.delf_model.specs.declared.rows.EdgeKey.{EdgeKey}
 use Rattle.delf_model.specs.declared.rows.EdgeRow.{EdgeRow}
 use Rattle.delf_model.specs.Graph.{has_id, has_key, object_at, edge_at}
 use Rattle.payload_laws.proofs.Members.{found_in}
-use Rattle.store_laws.proofs.Needs.{row_needed, edge_needed}
+use Rattle.payload_laws.proofs.Taken.{row_needed, edge_needed}
 use Rattle.delf_model.specs.declared.entry.Entry.{Entry}
 use Rattle.delf_model.specs.RuleSet.{RuleSet}
 use Rattle.delf_model.specs.State.{State}

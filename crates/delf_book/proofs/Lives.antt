@@ -28,7 +28,7 @@ use Rattle.payload_laws.proofs.Carriers.{HeldLast, Unheld, held_or_not, carrier_
 use Rattle.payload_laws.proofs.Moves.{NeededBy, ByRow, ByItem, payloads_held}
 use Rattle.payload_laws.proofs.Placed.{IsFrom, Placed, placed_after, sources_in, sizes_in}
 use Rattle.payload_laws.proofs.Rows.{Source, OfNone, OfObject, OfEdge, OfPut, source_of, source_of_item, Holds, ByObject, ByEdge}
-use Rattle.store_laws.proofs.Needs.{row_needed, edge_needed}
+use Rattle.payload_laws.proofs.Taken.{row_needed, edge_needed}
 use Rattle.ledger.specs.Parts.{what_of}
 use Rattle.delf_book.specs.Reads.{carriers_of_row, carriers_of_what}
 use Rattle.delf_book.specs.Writing.{dead_carriers}

@@ -32,7 +32,7 @@ use Rattle.store_laws.specs.Stores.{digest, Hold, journal_mark, journal_of, vaul
 use Rattle.store_laws.specs.Moves.{AreItemRecords, RestIn, StandsFor, new_items}
 use Rattle.store_laws.proofs.Appends.{journal_stands, journal_sizes, rest_stand}
 use Rattle.store_laws.proofs.Spelled.{log_told}
-use Rattle.store_laws.proofs.Needs.{taken_needed}
+use Rattle.payload_laws.proofs.Taken.{taken_needed}
 use Rattle.delete_step.specs.Claims.{ClaimView}
 use Rattle.delete_step.specs.Records.{head_of}
 use Rattle.delf_book.specs.Keeping.{PutsBack, item_sizes}

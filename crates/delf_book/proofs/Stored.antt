@@ -30,7 +30,7 @@ use Rattle.payload_laws.proofs.Carriers.{journal_is}
 use Rattle.payload_laws.proofs.Placed.{placed_after, size_there}
 use Rattle.payload_laws.proofs.Rows.{Source, OfNone, OfObject, OfEdge, OfPut, source_of, Holds, ByObject, ByEdge, not_none, not_put}
 use Rattle.store_laws.specs.Stores.{journal_mark, payload_in, journal_of, vault_of}
-use Rattle.store_laws.proofs.Needs.{row_needed, edge_needed}
+use Rattle.payload_laws.proofs.Taken.{row_needed, edge_needed}
 use Rattle.store_laws.proofs.Spelled.{log_told}
 use Rattle.delf_book.specs.Keeping.{journal_sizes}
 use Rattle.delf_book.specs.Reads.{IsObjectAt, IsEdgeAt}

@@ -1,5 +1,5 @@
 -- The payloads of a history: which positions are needed, what is given and sealed, and what carries each payload.
-use Rattle.std.specs.Prelude.{◌≡◌, ◌≢◌, ℕ, Bool, true, false, ◌&&◌, ◌||◌, not, nat_eq, List, [], ◌∷◌, ◌++◌, Option, Some, None, find, filter, slice_get, if◌then◌else◌, option_and_then}
+use Rattle.std.specs.Prelude.{◌≡◌, ◌≢◌, ℕ, Bool, true, false, ◌&&◌, ◌||◌, not, nat_eq, List, [], ◌∷◌, ◌++◌, Option, Some, None, find, filter, slice_get, if◌then◌else◌, option_and_then, unwrap_or, map}
 use Rattle.std.specs.List.{list_any}
 use Rattle.delf_model.specs.declared.rows.ObjectRow.{ObjectRow}
 use Rattle.delf_model.specs.declared.rows.EdgeRow.{EdgeRow}
@@ -7,7 +7,8 @@ use Rattle.delf_model.specs.declared.entry.Entry.{Entry}
 use Rattle.delf_model.specs.declared.entry.What.{What}
 use Rattle.delf_model.specs.declared.entry.What.TheVariants.{Create, Update, Link, Cut, Erase}
 use Rattle.delf_model.specs.Graph.{object_at, edge_at}
-use Rattle.delf_model.specs.State.{State, Logged, Handled, JobRow, job_row, job_of, position_of}
+use Rattle.delf_model.specs.RuleSet.{RuleSet}
+use Rattle.delf_model.specs.State.{State, Logged, Handled, JobRow, start, job_row, job_of, position_of}
 use Rattle.delf_model.specs.Step.{step}
 use Rattle.delf_model.specs.Owners.{key_of}
 use Rattle.delf_model.specs.Order.{last_place}
@@ -56,7 +57,7 @@ abbrev pub bytes_of_pair : Option (ℕ × List ℕ) → List ℕ
 bytes_of_pair None = []
 bytes_of_pair (Some pair) = pair.1
 
--- the payload at a position; a position that is not needed has no pair, and then it is empty
+-- the payload at a position; where there is no pair, as at a position that is not needed, it is empty
 abbrev pub payload_at : Payloads → ℕ → List ℕ
 payload_at e p = bytes_of_pair (find (is_at p) e.bytes)
 
@@ -91,6 +92,31 @@ payloads_after digest s entry given e = record {
   bytes = filter (is_needed_pair (step s entry)) (e.bytes ++ brought s.len entry.what given);
   seals = e.seals ++ sealed digest s e entry.what;
 }
+
+-- payloads along a history
+
+-- the bytes that the call at this position gave; none where no call gave any
+abbrev pub given_at : List (List ℕ) → ℕ → List ℕ
+given_at given p = unwrap_or (slice_get given p) []
+
+-- the payloads after further entries, each with the bytes given at its position
+abbrev pub payloads_run : (List ℕ → List ℕ) → List (List ℕ) → State → List Entry → Payloads → Payloads
+payloads_run digest given s [] e = e
+payloads_run digest given s (entry ∷ rest) e =
+    payloads_run digest given (step s entry) rest (payloads_after digest s entry (given_at given s.len) e)
+
+-- the payloads after a history
+abbrev pub payloads_along : (List ℕ → List ℕ) → List (List ℕ) → RuleSet → List Entry → Payloads
+payloads_along digest given rules history = payloads_run digest given (start rules) history no_payloads
+
+abbrev pub seal_given : (List ℕ → List ℕ) → List (List ℕ) → Logged → List ℕ
+seal_given digest given logged = digest (given_at given (position_of logged.item))
+
+-- the payloads are those that calls gave: a needed position has one pair, with the bytes of its call, and no other
+-- position has any; each item has one seal, the digest of those bytes
+pub record AreGiven (digest : List ℕ → List ℕ) (given : List (List ℕ)) (s : State) (e : Payloads) : Type 0 where
+  pub pairs : (p : ℕ) → filter (is_at p) e.bytes ≡ (if is_needed s p then (p, given_at given p) ∷ [] else [])
+  pub seals : e.seals ≡ map (seal_given digest given) s.items
 
 -- what carries a payload: the journal record at this position, or the vault record of this item
 pub data Carrier : Type 0 where

@@ -16,7 +16,7 @@ use Rattle.delf_model.specs.Legal.{EachStep, is_end_item}
 use Rattle.delf_model.specs.Room.{room, room_limit}
 use Rattle.delf_model.specs.Order.{is_step, is_legal_step, first_step}
 use Rattle.delf_model.specs.Report.{was_listed}
-use Rattle.delf_model.specs.Payloads.{is_needed}
+use Rattle.delf_model.specs.Payloads.{is_needed, payload_at, payloads_along, AreGiven}
 use Rattle.delf_model.specs.Closure.{has, Closure, Calm, has_erased, has_cut, items_of_job, union, root_of, is_step_of}
 
 -- what leaves the graph
@@ -181,6 +181,20 @@ pub record Inverse (rules : RuleSet) (history : List Entry) : Type 0 where
       ((after rules (take q history)).graph ≡ (after rules (take (job + 1) history)).graph) ×
       ((p : ℕ) → is_needed (after rules (take q history)) p ≡ is_needed (after rules (take (job + 1) history)) p)
 
+-- the payloads, whatever bytes the calls give and whatever the digest is
+
+-- along the history the payloads are those that calls gave; and where a part is calm, all items of the job are handled
+-- at its end and the job's own entries alone stand in it, each payload is that of right after the start
+pub record PayloadsAreGiven (rules : RuleSet) (history : List Entry) : Type 0 where
+  pub along : (digest : List ℕ → List ℕ) (given : List (List ℕ)) →
+      AreGiven digest given (after rules history) (payloads_along digest given rules history)
+  pub back : (digest : List ℕ → List ℕ) (given : List (List ℕ)) (job root q : ℕ) (ids : List ℕ) →
+      Calm rules history job root q ids → AllHandled (after rules (take q history)) job →
+      ((p : ℕ) (e : Entry) → job < p → p < q → slice_get history p ≡ Some e → is_own_entry job e.what ≡ true) →
+      (p : ℕ) → is_needed (after rules (take q history)) p ≡ true →
+      payload_at (payloads_along digest given rules (take q history)) p ≡
+      payload_at (payloads_along digest given rules (take (job + 1) history)) p
+
 -- the room
 
 -- an unlink, a delete or a step
@@ -212,4 +226,5 @@ pub record Sound (rules : RuleSet) (history : List Entry) : Type 0 where
   pub puts : PutsAreJudged rules history
   pub joined : RestoreIsUnion rules history
   pub inverse : Inverse rules history
+  pub given : PayloadsAreGiven rules history
   pub room_kept : KeepsRoom rules history

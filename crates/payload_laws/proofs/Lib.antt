@@ -4,3 +4,5 @@ pub mod Rows
 pub mod Items
 pub mod Placed
 pub mod Moves
+pub mod Taken
+pub mod Given

@@ -24,7 +24,8 @@ use Rattle.store_laws.specs.Stores.{digest, head_in, length_in, seal_in, seals_o
 use Rattle.store_laws.specs.Moves.{IsEntryRecord, AreItemRecords, new_items}
 use Rattle.store_laws.proofs.Places.{payload_inside, payload_behind}
 use Rattle.store_laws.proofs.Items.{item_in, item_heads_same, sizes_same, item_heads-append, kept_items, new_none, items_split, record_sizes-append, run-len}
-use Rattle.store_laws.proofs.Needs.{Inside, needed_inside, taken_needed}
+use Rattle.store_laws.proofs.Needs.{Inside, needed_inside}
+use Rattle.payload_laws.proofs.Taken.{taken_needed}
 
 abbrev pub Reads : State → Payloads → List Record → List Record → Type 0
 Reads s e journal vault = (p : ℕ) → is_needed s p ≡ true → payload_in journal vault (last_carrier s p) ≡ payload_at e p

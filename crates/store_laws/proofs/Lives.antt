@@ -28,7 +28,7 @@ use Rattle.payload_laws.specs.Holders.{IsLive, record_size, put_size, brings, po
 use Rattle.payload_laws.proofs.Members.{In, some_is, found_in, in_mapped, at_any, put_object_there, put_edge_there}
 use Rattle.payload_laws.proofs.Rows.{none_handled}
 use Rattle.payload_laws.proofs.Items.{purged_now}
-use Rattle.store_laws.proofs.Needs.{row_needed, edge_needed}
+use Rattle.payload_laws.proofs.Taken.{row_needed, edge_needed}
 use Rattle.store_laws.proofs.Unpurged.{Unpurged, owner_unpurged}
 
 -- what an entry brings is needed

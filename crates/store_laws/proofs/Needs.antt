@@ -49,32 +49,3 @@ needed_inside rules h legal held p needed =
 
     below : (i : ℕ) (last : HeldLast p (after rules h).items i) (by : PutBy last.logged.handled) → by.how.put < (after rules h).len
     below i last by = ((placed_after rules h legal).puts i last.logged by.how last.there by.is by.back).below
-
--- a row that is taken
-
-pub row_needed : (s : State) (p : ℕ) (row : ObjectRow) → In s.graph.objects row → row.at ≡ p → is_needed s p ≡ true
-row_needed s p row here at =
-    or_left (list_any (object_needs p) s.graph.objects || list_any (edge_needs p) s.graph.edges) (list_any (item_needs s.jobs p) s.items)
-    (or_left (list_any (object_needs p) s.graph.objects) (list_any (edge_needs p) s.graph.edges) (in_any (object_needs p) s.graph.objects row here (eq-eqb row.at p at)))
-
-pub edge_needed : (s : State) (p : ℕ) (row : EdgeRow) → In s.graph.edges row → row.birth ≡ p → is_needed s p ≡ true
-edge_needed s p row here at =
-    or_left (list_any (object_needs p) s.graph.objects || list_any (edge_needs p) s.graph.edges) (list_any (item_needs s.jobs p) s.items)
-    (or_right (list_any (object_needs p) s.graph.objects) (list_any (edge_needs p) s.graph.edges) (in_any (edge_needs p) s.graph.edges row here (eq-eqb row.birth p at)))
-
-edge_found : (s : State) (edge from to : ℕ) (o : Option EdgeRow) → edge_at s.graph (key_of edge from to) ≡ o → is_some o ≡ true → is_needed s (position_of_edge o) ≡ true
-edge_found s edge from to None at some = absurd (false≢true some)
-edge_found s edge from to (Some row) at some = edge_needed s row.birth row (found_in (has_key (key_of edge from to)) s.graph.edges row at) refl
-
-object_found : (s : State) (id : ℕ) (o : Option ObjectRow) → object_at s.graph id ≡ o → is_some o ≡ true → is_needed s (position_of_object o) ≡ true
-object_found s id None at some = absurd (false≢true some)
-object_found s id (Some row) at some = row_needed s row.at row (found_in (has_id id) s.graph.objects row at) refl
-
-pub taken_needed : (s : State) (moment : ℕ) (w : What) → OwnedStand s → is_allowed s moment w ≡ true → (p : ℕ) → position_taken s w ≡ Some p → is_needed s p ≡ true
-taken_needed s moment (Cut job edge from to) owned line p taken =
-    subst (λ (n : ℕ). is_needed s n ≡ true) (same_Some _ _ taken)
-    (edge_found s edge from to (edge_at s.graph (key_of edge from to)) refl (and_parts (edge_stands s.graph (key_of edge from to)) (is_owned_by s job from || is_owned_by s job to) line).0)
-taken_needed s moment (Erase job id) owned line p taken =
-    subst (λ (n : ℕ). is_needed s n ≡ true) (same_Some _ _ taken)
-    (object_found s id (object_at s.graph id) refl (owned id job (owner_is s job id (and_parts (is_owned_by s job id) (not (is_touched s.graph id)) line).0)))
-taken_needed s moment w owned line p taken = absurd (cc taken)
