@@ -7,7 +7,7 @@ use crate::counts::Counts;
 use crate::disk::{Disk, Rig};
 use crate::files::{Lazy, Paths};
 use std::alloc::{AllocError, Global};
-use std::fs::Files;
+use std::fs::{File, Files};
 
 /// The files `delf.journal` and `delf.vault` in one folder.
 ///
@@ -18,13 +18,13 @@ use std::fs::Files;
 /// It tells nothing of its bytes, as no contract can say what a file gives. A call that an order lets
 /// fail touches no file.
 #[derive(Drop)]
-pub struct FileDisk<'a, R: Files + Sync> {
+pub struct FileDisk<'a, R: Files<File = File> + Sync> {
     rt: &'a R,
-    files: Lazy<R::File>,
+    files: Lazy,
     counts: Counts,
 }
 
-impl<'a, R: Files + Sync> FileDisk<'a, R> {
+impl<'a, R: Files<File = File> + Sync> FileDisk<'a, R> {
     /// The disk in this folder, which has to be there. No file is touched yet.
     pub fn at(rt: &'a R, alloc: Global, folder: &str) -> Result<FileDisk<'a, R>, AllocError>
         ensures faults { IfOk result (λ disk. ⟦<FileDisk<'a, R> as Disk>⟧.faults disk ≡ 0) }
@@ -40,7 +40,7 @@ impl<'a, R: Files + Sync> FileDisk<'a, R> {
     }
 }
 
-impl<R: Files + Sync> Disk for FileDisk<'_, R> {
+impl<R: Files<File = File> + Sync> Disk for FileDisk<'_, R> {
     ghost told = { λ _. false };
 
     ghost honest = { λ _. false };
@@ -100,7 +100,7 @@ impl<R: Files + Sync> Disk for FileDisk<'_, R> {
     }
 }
 
-impl<R: Files + Sync> Rig for FileDisk<'_, R> {
+impl<R: Files<File = File> + Sync> Rig for FileDisk<'_, R> {
     // It loses nothing.
     fn cut_power(&mut self, pick: u64) {
         self.counts.cut_power(pick);
