@@ -11,12 +11,20 @@ use std::fs::{File, Files};
 
 /// The files `delf.journal` and `delf.vault` in one folder.
 ///
-/// Both are made or opened by the first call, whichever it is, and then the folder is synced. A sync
-/// is a data-sync of each file that was written since the last one. The first sync covers both, since
-/// an earlier run of the program may have written them.
+/// Both are opened by the first call, whichever it is, or made for their owner alone, and then the folder
+/// is synced. A lock on the journal keeps every other program out for as long as this one lives. No file
+/// of it has a descriptor of the standard streams, also where those are closed.
 ///
-/// It tells nothing of its bytes, as no contract can say what a file gives. A call that an order lets
-/// fail touches no file.
+/// A sync is a data-sync of each file that was written since the last one, the journal first. The first
+/// sync covers both, since an earlier run of the program may have written them. After one that failed the
+/// file still counts as written, but that is no mending: the system has usually dropped the bytes that it
+/// could not bring to the medium, and answers Ok the next time. So whoever is answered `Failed` by a sync
+/// has to stop, and to open the store anew.
+///
+/// The first call is answered `Failed`, and so is each later one until it succeeds, where the folder is
+/// missing, where there is no right to it or to its files or no space for them, or where another program
+/// has the store. It tells nothing of its bytes, as no contract can say what a file gives. A call that an
+/// order lets fail touches no file.
 #[derive(Drop)]
 pub struct FileDisk<'a, R: Files<File = File> + Sync> {
     rt: &'a R,
