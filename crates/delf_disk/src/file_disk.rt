@@ -1,5 +1,6 @@
 //! A disk of two files.
 ghost use Rattle.std.specs.Prelude.{◌≡◌, false, [], IfOk};
+ghost use Rattle.delf_disk.specs.Paths.{LieIn};
 ghost use Rattle.delf_disk.specs.Plain.{not_plain};
 
 use crate::area::{Area, Failed, Order};
@@ -35,6 +36,7 @@ pub struct FileDisk<'a, R: Files<File = File> + Sync> {
 impl<'a, R: Files<File = File> + Sync> FileDisk<'a, R> {
     /// The disk in this folder, which has to be there. No file is touched yet.
     pub fn at(rt: &'a R, alloc: Global, folder: &str) -> Result<FileDisk<'a, R>, AllocError>
+        ensures files { IfOk result (λ disk. LieIn folder.now disk.files.paths) }
         ensures faults { IfOk result (λ disk. ⟦<FileDisk<'a, R> as Disk>⟧.faults disk ≡ 0) }
         ensures fuse { IfOk result (λ disk. ⟦<FileDisk<'a, R> as Disk>⟧.fuse disk ≡ 0) }
         ensures order { IfOk result (λ disk. ⟦<FileDisk<'a, R> as Disk>⟧.order disk ≡ Order.Nothing) }

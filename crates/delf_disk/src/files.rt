@@ -1,4 +1,7 @@
 //! The files of a disk, and the calls of the system. No clause says what bytes go through them.
+ghost use Rattle.std.specs.Prelude.{◌≡◌, IfOk, string_bytes};
+ghost use Rattle.delf_disk.specs.Paths.{path_in, LieIn};
+
 use crate::area::Area;
 use std::alloc::{AllocError, Global};
 use std::fs::{File, Files, OpenOptions};
@@ -14,16 +17,23 @@ pub struct Paths {
 }
 
 // The path of a file in a folder. The folder that a program runs in has the empty path.
-fn path_of(alloc: Global, folder: &str, name: &str) -> Result<String, AllocError> {
+fn path_of(alloc: Global, folder: &str, name: &str) -> Result<String, AllocError>
+    ensures { IfOk result (λ path. string_bytes path ≡ path_in folder.now name.now) }
+{
     if folder.is_empty() {
         return String::from_str(alloc, name);
     }
-    format!(in alloc; "{folder}/{name}")
+    let mut path = String::from_str(alloc, folder)?;
+    path.push_str("/")?;
+    path.push_str(name)?;
+    Ok(path)
 }
 
 impl Paths {
     /// Those of the files in this folder.
-    pub(crate) fn of(alloc: Global, folder: &str) -> Result<Paths, AllocError> {
+    pub(crate) fn of(alloc: Global, folder: &str) -> Result<Paths, AllocError>
+        ensures { IfOk result (LieIn folder.now) }
+    {
         Ok(Paths {
             folder: path_of(alloc, folder, ".")?,
             journal: path_of(alloc, folder, "delf.journal")?,
@@ -155,7 +165,9 @@ fn not_open() -> io::Error {
 
 impl Lazy {
     /// Files that are not opened yet.
-    pub(crate) fn of(paths: Paths) -> Lazy {
+    pub(crate) fn of(paths: Paths) -> Lazy
+        ensures { result.paths ≡ paths }
+    {
         Lazy { paths, open: None }
     }
 

@@ -1,4 +1,4 @@
-use Rattle.std.proofs.Common.{◌≡◌, ℕ, ◌+◌, ◌-◌, length, take, drop, replicate, ◌∙◌, ap, arith, length-take, length-drop}
+use Rattle.std.proofs.Common.{◌≡◌, ◌+◌, ◌-◌, length, take, drop, replicate, ◌∙◌, ap, arith, length-take, length-drop}
 use Rattle.delf_disk.proofs.Laid.{filled_part}
 use Rattle.delf_disk.proofs.content.fill_inside.Goals as goal
 
