@@ -1,16 +1,9 @@
 -- How far the loops over a disk's writes have come.
-use Rattle.std.proofs.Common.{◌≡◌, ℕ, ◌≤◌, List, drop, replicate, Vec, vec_capacity}
-use Rattle.std.specs.declared.alloc.Global.{Global}
+use Rattle.std.proofs.Common.{◌≡◌, ℕ, List, drop}
 use Rattle.delf_disk.specs.declared.content.Content.{Content}
 use Rattle.delf_disk.specs.declared.past.Write.{Write}
 use Rattle.delf_disk.specs.Content.{areas_of, KeepsRoom}
-use Rattle.delf_disk.specs.Laying.{overlaid}
 use Rattle.delf_disk.specs.Epochs.{laid_all, picked}
-
--- so many bytes of a filling stand
-pub record FillsSoFar (at byte i : ℕ) (start list : Vec ℕ Global) : Type 0 where
-  pub is : list.items ≡ overlaid at (replicate i byte) start.items
-  pub room : vec_capacity start ≤ vec_capacity list
 
 -- so many of the writes are done
 pub record LandsSoFar (writes : List Write) (i : ℕ) (start content : Content) : Type 0 where

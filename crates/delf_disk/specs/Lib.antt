@@ -8,4 +8,5 @@ pub mod Images
 pub mod Laying
 pub mod MemDisk
 pub mod Moments
+pub mod Paths
 pub mod Plain

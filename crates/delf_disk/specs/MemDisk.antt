@@ -1,6 +1,7 @@
 -- What a disk in memory shows.
-use Rattle.std.specs.Prelude.{◌≡◌, ℕ, Bool, List, [], ◌∷◌, ◌++◌}
+use Rattle.std.specs.Prelude.{◌≡◌, ◌⊎◌, ℕ, Bool, true, false, List, [], ◌∷◌, ◌++◌, Result, IsOk, IsErr}
 use Rattle.delf_disk.specs.declared.area.Area.{Area}
+use Rattle.delf_disk.specs.declared.area.Failed.{Failed}
 use Rattle.delf_disk.specs.declared.mem_disk.MemDisk.{MemDisk}
 use Rattle.delf_disk.specs.declared.past.Write.{Write}
 use Rattle.delf_disk.specs.Areas.{Areas}
@@ -26,6 +27,10 @@ fails_of disk = disk.counts.fails.items
 -- how many disk calls there were, up to the greatest `u64`
 abbrev pub calls_of : MemDisk → ℕ
 calls_of disk = disk.counts.calls
+
+-- how many of them failed, up to the greatest `u64`
+abbrev pub faults_of : MemDisk → ℕ
+faults_of disk = disk.counts.faults
 
 -- how many of them were refused memory, up to the greatest `u64`
 abbrev pub starved_of : MemDisk → ℕ
@@ -54,3 +59,31 @@ pub record Appends (old new : MemDisk) (area : Area) (at : ℕ) (bytes : List �
   pub landed_is : write.landed ≡ landed
   pub stable : stable_of new ≡ stable_of old
   pub pending : pending_of new ≡ pending_of old ++ write ∷ []
+
+-- a write that did its work: it was not set to fail, and is pending
+pub record Lands {T : Type 0} (old new : MemDisk) (area : Area) (at : ℕ) (bytes : List ℕ) (result : Result T Failed) : Type 0 where
+  pub is_ok : IsOk result
+  pub not_set : IsNextToFail old → ⊥
+  pub appends : Appends old new area at bytes true
+  pub faults : faults_of new ≡ faults_of old
+  pub starved : starved_of new ≡ starved_of old
+
+-- a write that was set to fail: it is pending too, since a crash may leave it
+pub record FailsAsSet {T : Type 0} (old new : MemDisk) (area : Area) (at : ℕ) (bytes : List ℕ) (result : Result T Failed) : Type 0 where
+  pub is_err : IsErr result
+  pub is_set : IsNextToFail old
+  pub appends : Appends old new area at bytes false
+  pub faults : faults_of new ≡ next (faults_of old)
+  pub starved : starved_of new ≡ starved_of old
+
+-- a write that was refused memory, set to fail or not: it is not pending
+pub record IsRefused {T : Type 0} (old new : MemDisk) (result : Result T Failed) : Type 0 where
+  pub is_err : IsErr result
+  pub keeps : KeepsPending old new
+  pub faults : faults_of new ≡ next (faults_of old)
+  pub starved : starved_of new ≡ next (starved_of old)
+
+-- How a write ends. The answer tells the first way from the two others, and the list of pending writes tells those apart.
+abbrev pub Ends : {T : Type 0} → MemDisk → MemDisk → Area → ℕ → List ℕ → Result T Failed → Type 0
+Ends old new area at bytes result =
+    Lands old new area at bytes result ⊎ (FailsAsSet old new area at bytes result ⊎ IsRefused old new result)

@@ -1,5 +1,7 @@
+//! The bytes that a disk in memory keeps of both areas.
 ghost use Rattle.std.specs.Prelude.{◌≡◌, ◌+◌, ◌-◌, ◌≤◌, [], ◌++◌, length, replicate, vec_capacity, IfOk, OnOk};
 ghost use Rattle.delf_disk.specs.Areas.{Areas, area_of};
+ghost use Rattle.delf_disk.specs.Images.{overwritten};
 ghost use Rattle.delf_disk.specs.Laying.{padded, overlaid, overlaid_in};
 
 use crate::area::Area;
@@ -49,10 +51,16 @@ fn fill(list: &mut Vec<u8>, at: usize, n: usize, byte: u8)
     ensures items { list.new.items ≡ overlaid at (replicate n byte) list.old.items }
     ensures room { vec_capacity list.old ≤ vec_capacity list.new }
 {
-    pad(list, at);
-    for i in 0..n {
-        lay(list, at + i, &[byte]);
-    }
+    pad(list, at + n);
+    fill_inside(list, at, n, byte);
+}
+
+// The same inside of a list.
+fn fill_inside(list: &mut [u8], at: usize, n: usize, byte: u8)
+    requires { at + n ≤ length list.old }
+    ensures { list.new ≡ overwritten at (replicate n byte) list.old }
+{
+    list[at..at + n].fill(byte);
 }
 
 // Makes room for an area of `end` bytes.

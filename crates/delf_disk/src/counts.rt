@@ -1,4 +1,5 @@
-ghost use Rattle.std.specs.Prelude.{◌≡◌, ◌-◌, ◌≤◌, ◌↔◌, [], IsOk, IsTrue, MatchBool};
+//! How a disk counts its calls and its faults, and what it was ordered to do.
+ghost use Rattle.std.specs.Prelude.{◌≡◌, ◌-◌, ◌≤◌, ◌↔◌, [], IsOk, IsTrue, OnErr, MatchBool};
 ghost use Rattle.delf_disk.specs.Causes.{HasCause};
 ghost use Rattle.delf_disk.specs.Counts.{next, IsSetToFail};
 ghost use Rattle.delf_disk.specs.Plain.{NextCount};
@@ -37,13 +38,12 @@ impl Counts {
         }
     }
 
-    /// Counts one call, and says whether it's set to fail. One that is counts as a fault.
-    pub(crate) fn takes_call(&mut self) -> bool
+    /// Counts one call, and says whether it's set to fail.
+    pub(crate) fn next_call(&mut self) -> bool
         ensures is_set { IsTrue result ↔ IsSetToFail self.old.fails.items self.old.calls self.old.fuse }
         ensures calls { self.new.calls ≡ next self.old.calls }
         ensures fuse { self.new.fuse ≡ self.old.fuse - 1 }
-        ensures faults { MatchBool result (NextCount self.old.faults self.new.faults) (self.new.faults ≡ self.old.faults) }
-        ensures later { self.old.faults ≤ self.new.faults }
+        ensures faults { self.new.faults ≡ self.old.faults }
         ensures fails { self.new.fails.items ≡ self.old.fails.items }
         ensures starved { self.new.starved ≡ self.old.starved }
         ensures order { self.new.order ≡ self.old.order }
@@ -52,29 +52,49 @@ impl Counts {
         self.calls = self.calls.saturating_add(1);
         let fails = self.fails.contains(&self.calls) || self.fuse == 1;
         self.fuse = self.fuse.saturating_sub(1);
+        fails
+    }
+
+    /// Counts a fault.
+    pub(crate) fn fault(&mut self)
+        ensures new { self.new ≡ record self.old { faults = next self.old.faults } }
+        ensures later { self.old.faults ≤ self.new.faults }
+    {
+        self.faults = self.faults.saturating_add(1);
+    }
+
+    /// Counts one call, and says whether it's set to fail. One that is counts as a fault.
+    pub(crate) fn takes_call(&mut self) -> bool
+        ensures is_set { IsTrue result ↔ IsSetToFail self.old.fails.items self.old.calls self.old.fuse }
+        ensures calls { self.new.calls ≡ next self.old.calls }
+        ensures fuse { self.new.fuse ≡ self.old.fuse - 1 }
+        ensures faults { MatchBool result (self.new.faults ≡ next self.old.faults) (self.new.faults ≡ self.old.faults) }
+        ensures later { self.old.faults ≤ self.new.faults }
+        ensures fails { self.new.fails.items ≡ self.old.fails.items }
+        ensures starved { self.new.starved ≡ self.old.starved }
+        ensures order { self.new.order ≡ self.old.order }
+        ensures orders { self.new.orders ≡ self.old.orders }
+    {
+        let fails = self.next_call();
         if fails {
-            self.faults = self.faults.saturating_add(1);
+            self.fault();
         }
         fails
     }
 
     /// Counts a call that was refused memory, which is a fault too.
     pub(crate) fn starve(&mut self)
-        ensures starved { NextCount self.old.starved self.new.starved }
-        ensures faults { NextCount self.old.faults self.new.faults }
-        ensures calls { self.new.calls ≡ self.old.calls }
-        ensures fuse { self.new.fuse ≡ self.old.fuse }
-        ensures fails { self.new.fails.items ≡ self.old.fails.items }
-        ensures order { self.new.order ≡ self.old.order }
-        ensures orders { self.new.orders ≡ self.old.orders }
+        ensures new { self.new ≡ record self.old { faults = next self.old.faults; starved = next self.old.starved } }
+        ensures later { self.old.faults ≤ self.new.faults }
     {
         self.starved = self.starved.saturating_add(1);
-        self.faults = self.faults.saturating_add(1);
+        self.fault();
     }
 
     /// Counts a fault where a call of the system failed, and gives its answer.
     pub(crate) fn take<T>(&mut self, answer: io::Result<T>) -> Result<T, Failed>
         ensures cause { HasCause self.old.faults self.new.faults result }
+        ensures count { OnErr result (self.new.faults ≡ next self.old.faults) }
         ensures starved { self.new.starved ≡ self.old.starved }
         ensures calls { self.new.calls ≡ self.old.calls }
         ensures fuse { self.new.fuse ≡ self.old.fuse }
@@ -86,7 +106,7 @@ impl Counts {
         match answer {
             Ok(value) => Ok(value),
             Err(_) => {
-                self.faults = self.faults.saturating_add(1);
+                self.fault();
                 Err(Failed)
             }
         }

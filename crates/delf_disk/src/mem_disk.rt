@@ -1,9 +1,9 @@
 //! A disk in memory, which knows what a crash would leave and can be told to fail.
-ghost use Rattle.std.specs.Prelude.{◌≡◌, ◌⊎◌, ◌+◌, ◌-◌, ◌≤◌, ◌<◌, ◌↔◌, ◌++◌, ◌∷◌, [], ℕ, Bool, true, List, length, take, drop, vec_len, vec_capacity, is_ok, IsErr, IfOk, OnOk, OnErr, if◌then◌else◌};
+ghost use Rattle.std.specs.Prelude.{◌≡◌, ◌+◌, ◌-◌, ◌≤◌, ◌<◌, ◌↔◌, ◌++◌, ◌∷◌, [], ℕ, Bool, true, List, length, take, drop, vec_len, vec_capacity, IsErr, IfOk, OnOk, OnErr, if◌then◌else◌};
 ghost use Rattle.delf_disk.specs.Areas.{Areas, area_of};
-ghost use Rattle.delf_disk.specs.Causes.{Rose, HasCause, Burns};
+ghost use Rattle.delf_disk.specs.Causes.{HasCause, Burns};
 ghost use Rattle.delf_disk.specs.Content.{areas_of, room_of, IsRoomy};
-ghost use Rattle.delf_disk.specs.Counts.{FailsExactly};
+ghost use Rattle.delf_disk.specs.Counts.{next};
 ghost use Rattle.delf_disk.specs.EpochLaws.{reads_as_image, counts_now, only_now};
 ghost use Rattle.delf_disk.specs.Epochs.{laid_all, picked, Image, stable_after, moment_of, LeftSince};
 ghost use Rattle.delf_disk.specs.Images.{Torn, Written, Same, Moves, Only};
@@ -124,7 +124,7 @@ impl MemDisk {
 }
 
 impl Disk for MemDisk {
-    ghost use Rattle.delf_disk.specs.MemDisk.{seen_of, stable_of, pending_of, starved_of, IsNextToFail, CountsCall, KeepsPending, Appends};
+    ghost use Rattle.delf_disk.specs.MemDisk.{seen_of, stable_of, pending_of, faults_of, starved_of, IsNextToFail, CountsCall, KeepsPending, Ends};
 
     ghost told = { λ _. true };
 
@@ -157,6 +157,7 @@ impl Disk for MemDisk {
         ensures seen { seen_of self.new ≡ seen_of self.old }
         ensures pending { KeepsPending self.old self.new }
         ensures exact { IsErr result ↔ IsNextToFail self.old }
+        ensures count { OnErr result (faults_of self.new ≡ next (faults_of self.old)) }
         ensures fed { starved_of self.new ≡ starved_of self.old }
         ensures images { Moves Same (⟦<MemDisk as Disk>⟧.moment self.old) (⟦<MemDisk as Disk>⟧.moment self.new) (⟦<MemDisk as Disk>⟧.may_leave self.old) (⟦<MemDisk as Disk>⟧.may_leave self.new)
             (⟦<MemDisk as Disk>⟧.left_since self.old) (⟦<MemDisk as Disk>⟧.left_since self.new) }
@@ -177,6 +178,7 @@ impl Disk for MemDisk {
         ensures seen { seen_of self.new ≡ seen_of self.old }
         ensures pending { KeepsPending self.old self.new }
         ensures exact { IsErr result ↔ IsNextToFail self.old }
+        ensures count { OnErr result (faults_of self.new ≡ next (faults_of self.old)) }
         ensures fed { starved_of self.new ≡ starved_of self.old }
         ensures images { Moves Same (⟦<MemDisk as Disk>⟧.moment self.old) (⟦<MemDisk as Disk>⟧.moment self.new) (⟦<MemDisk as Disk>⟧.may_leave self.old) (⟦<MemDisk as Disk>⟧.may_leave self.new)
             (⟦<MemDisk as Disk>⟧.left_since self.old) (⟦<MemDisk as Disk>⟧.left_since self.new) }
@@ -198,11 +200,7 @@ impl Disk for MemDisk {
         requires { at ≤ length (area_of area (seen_of self.old)) }
         ensures written { OnOk result (Written area at bytes.now (seen_of self.old) (seen_of self.new)) }
         ensures seen { OnErr result (seen_of self.new ≡ seen_of self.old) }
-
-        // A failed write is pending too, but for one that was refused memory.
-        ensures pending { Appends self.old self.new area at bytes.now (is_ok result)
-            ⊎ (IsErr result × Rose (starved_of self.old) (starved_of self.new) × KeepsPending self.old self.new) }
-        ensures exact { FailsExactly (IsNextToFail self.old) (starved_of self.old) (starved_of self.new) result }
+        ensures ends { Ends self.old self.new area at bytes.now result }
         ensures images { Moves (Torn area at (length bytes.now)) (⟦<MemDisk as Disk>⟧.moment self.old) (⟦<MemDisk as Disk>⟧.moment self.new) (⟦<MemDisk as Disk>⟧.may_leave self.old) (⟦<MemDisk as Disk>⟧.may_leave self.new)
             (⟦<MemDisk as Disk>⟧.left_since self.old) (⟦<MemDisk as Disk>⟧.left_since self.new) }
         ensures call { CountsCall self.old self.new }
@@ -210,7 +208,7 @@ impl Disk for MemDisk {
         ensures kind { SameKind ⟦<MemDisk as Disk>⟧.told ⟦<MemDisk as Disk>⟧.honest ⟦<MemDisk as Disk>⟧.order ⟦<MemDisk as Disk>⟧.orders self.old self.new }
         ensures fuse { Burns (⟦<MemDisk as Disk>⟧.fuse self.old) (⟦<MemDisk as Disk>⟧.fuse self.new) result }
     {
-        let fails = self.counts.takes_call();
+        let fails = self.counts.next_call();
         let Ok(write) = self.prepare(area, at, bytes, !fails) else {
             self.counts.starve();
             return Err(Failed);
@@ -218,6 +216,7 @@ impl Disk for MemDisk {
         self.live.land(&write);
         self.pending.push_reserved(write);
         if fails {
+            self.counts.fault();
             return Err(Failed);
         }
         Ok(())
@@ -231,6 +230,7 @@ impl Disk for MemDisk {
         ensures seen { seen_of self.new ≡ seen_of self.old }
         ensures pending { OnErr result (KeepsPending self.old self.new) }
         ensures exact { IsErr result ↔ IsNextToFail self.old }
+        ensures count { OnErr result (faults_of self.new ≡ next (faults_of self.old)) }
         ensures fed { starved_of self.new ≡ starved_of self.old }
         ensures images { Moves Same (⟦<MemDisk as Disk>⟧.moment self.old) (⟦<MemDisk as Disk>⟧.moment self.new) (⟦<MemDisk as Disk>⟧.may_leave self.old) (⟦<MemDisk as Disk>⟧.may_leave self.new)
             (⟦<MemDisk as Disk>⟧.left_since self.old) (⟦<MemDisk as Disk>⟧.left_since self.new) }

@@ -1,6 +1,8 @@
+//! That calls succeed with ample memory, what a cut of the power leaves, and what a disk of two real files does.
 use crate::{Area, Bytes, Disk, Failed, FileDisk, MemDisk, Numbers, Rig};
 use std::alloc::Global;
 use std::fs;
+use std::os::unix::fs::PermissionsExt;
 use std::test::Fail;
 
 // What reads in an area.
@@ -151,6 +153,42 @@ fn files_are_made_once_and_kept(rt: HostRuntime) -> Result<(), Fail> {
     assert_eq!(rt; again.len(Area::Vault), Ok(0));
     drop(again);
     fs::remove_dir_all(&rt, FOLDER)?;
+    Ok(())
+}
+
+const LOCKED: &str = "delf_disk_locked";
+
+const LOCKED_JOURNAL: &str = "delf_disk_locked/delf.journal";
+
+const LOCKED_VAULT: &str = "delf_disk_locked/delf.vault";
+
+#[test]
+fn one_disk_has_the_files_at_a_time(rt: HostRuntime) -> Result<(), Fail> {
+    let _ = fs::remove_dir_all(&rt, LOCKED);
+    fs::create_dir(&rt, LOCKED)?;
+    let mut first = FileDisk::at(&rt, rt.alloc(), LOCKED)?;
+    let mut second = FileDisk::at(&rt, rt.alloc(), LOCKED)?;
+    assert!(rt; put(&mut first, Area::Journal, 0, b"abc")?);
+    fs::remove_file(&rt, LOCKED_VAULT)?;
+    assert_eq!(rt; second.len(Area::Journal), Err(Failed));
+    assert_eq!(rt; second.sync(), Err(Failed));
+    assert!(rt; fs::metadata(&rt, LOCKED_VAULT).is_err());
+    assert_eq!(rt;
+        fs::metadata(&rt, LOCKED_JOURNAL)?.permissions().mode() & 0o777,
+        0o600
+    );
+    drop(first);
+    assert_eq!(rt; second.len(Area::Journal), Ok(3));
+    drop(second);
+    fs::remove_dir_all(&rt, LOCKED)?;
+    Ok(())
+}
+
+#[test]
+fn a_missing_folder_fails_each_call(rt: HostRuntime) -> Result<(), Fail> {
+    let mut disk = FileDisk::at(&rt, rt.alloc(), "delf_disk_missing")?;
+    assert_eq!(rt; disk.len(Area::Journal), Err(Failed));
+    assert_eq!(rt; disk.sync(), Err(Failed));
     Ok(())
 }
 
