@@ -164,6 +164,33 @@ fn a_restore_is_made_once_within_its_window(rt: HostRuntime) -> Result<(), Fail>
     Ok(())
 }
 
+// A schema with 256 edge types, whose names tell their numbers: the first half deep, the others refcount.
+fn all_edge_types(alloc: Global) -> Result<String, Fail> {
+    let mut schema = String::from_str(
+        alloc,
+        "schema 1\nwindow 100\nobject user directly\nobject photo by_any\n",
+    )?;
+    for number in 0..256u32 {
+        let rule = if number < 128 { "deep" } else { "refcount" };
+        let line = format!(in alloc; "edge e{number} user photo {rule}\n")?;
+        schema.push_str(line.as_str())?;
+    }
+    schema.push_str("script\n")?;
+    Ok(schema)
+}
+
+#[test]
+fn edge_types_with_great_numbers_are_put_back(rt: HostRuntime) -> Result<(), Fail> {
+    let schema = all_edge_types(rt.alloc())?;
+    prints(
+        &rt,
+        rt.alloc(),
+        schema.as_str(),
+        "create 1 user \"a\"\ncreate 2 photo \"b\"\ncreate 3 photo\nlink e64 1 2 \"x\"\nlink e255 1 3 \"y\"\ndelete 1 job 7\nwork 10\nshow\ncrash 0\nrestore 7\nwork 10\njob 7\nshow\n",
+        "0 created 1\n1 created 2\n2 created 3\n3 linked e64 1 2\n4 linked e255 1 3\n5 deleting 1 job 7\nwork 5 idle\ngraph 0 0\nopened 11\n11 restoring 7 items 5\nwork 5 idle\njob 7 start 5 root 1 restored put 5 listed 0\ngraph 3 2\nobject 1 user birth 0 \"a\"\nobject 2 photo birth 1 \"b\"\nobject 3 photo birth 2 \"\"\nedge e64 1 2 birth 3 \"x\"\nedge e255 1 3 birth 4 \"y\"\n",
+    )
+}
+
 #[test]
 fn what_expires_goes_by_itself(rt: HostRuntime) -> Result<(), Fail> {
     prints(

@@ -72,6 +72,7 @@ module _ (area : Area) (sizes : List (ℕ × ℕ)) (gate : ℕ) (place : gate �
           tail = back;
           split = closes.here (mark ++ spelled rs) 165 back (last_place mark rs last sized log.eight) (log.split ∙ last_split mark rs last (log.gate ∷ log.tail));
         };
+    gate_written = λ mark rs last sized log. refl;
   }
 
 -- a list that is not empty, as its front and its last

@@ -1,6 +1,7 @@
 mod Gate
 mod Rows
 mod Kept
+pub mod Unsynced
 mod Opened
 mod Reading
 mod Spans

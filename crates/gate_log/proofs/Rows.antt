@@ -79,7 +79,7 @@ module _ (mark : List ℕ) (rs : List Record) where
   }
 
   -- open, with a record's line behind it, it is the gate of that record
-  pub open_log : (r : Record) (bytes new : List ℕ) → Log mark rs bytes → IsBounded r.head r.payload → Open (front_of mark rs) (body r.head r.payload ++ 0 ∷ []) new → Log mark (rs ++ r ∷ []) new
+  abbrev pub open_log : (r : Record) (bytes new : List ℕ) → Log mark rs bytes → IsBounded r.head r.payload → Open (front_of mark rs) (body r.head r.payload ++ 0 ∷ []) new → Log mark (rs ++ r ∷ []) new
   open_log r bytes new log one opened = record {
     eight = log.eight;
     bounded = bounded-push rs r log.bounded one;
@@ -115,6 +115,7 @@ module _ (area : Area) (sizes : List (ℕ × ℕ)) (gate : ℕ) (head payload li
     here = λ mark rs sized log.
         open_log mark rs (record { head = head; payload = payload }) (area_of area old) (area_of area new) log fits
         (subst (λ (l : List ℕ). Open (front_of mark rs) l (area_of area new)) is (opens.here (front_of mark rs) (log_shut mark rs sizes gate (area_of area old) sized place log)));
+    gate_written = λ mark rs sized log. refl;
   }
 
 -- an image after an append at Ok

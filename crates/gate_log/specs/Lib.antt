@@ -7,3 +7,4 @@ pub mod View
 pub mod Sound
 pub mod Opening
 pub mod Looking
+pub mod Unsynced

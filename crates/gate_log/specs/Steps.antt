@@ -15,6 +15,9 @@ pub record Adds (area : Area) (sizes : List (ℕ × ℕ)) (head payload : List �
   pub other : rest_of area new ≡ rest_of area old
   pub here : (mark : List ℕ) (records : List Record) → map size_of records ≡ sizes → Log mark records (area_of area old)
       → Log mark (records ++ record { head = head; payload = payload } ∷ []) (area_of area new)
+  -- the closed gate behind it has the value 0
+  pub gate_written : (mark : List ℕ) (records : List Record) (sized : map size_of records ≡ sizes) (log : Log mark records (area_of area old))
+      → (here mark records sized log).gate ≡ 0
 
 -- any bytes in the payload of record i, and no other change
 pub record MayScrub (area : Area) (sizes : List (ℕ × ℕ)) (i : ℕ) (old new : Areas) : Type 0 where
@@ -38,6 +41,9 @@ pub record Drops (area : Area) (sizes : List (ℕ × ℕ)) (old new : Areas) : T
   pub other : rest_of area new ≡ rest_of area old
   pub here : (mark : List ℕ) (records : List Record) (last : Record) → map size_of (records ++ last ∷ []) ≡ sizes → Log mark (records ++ last ∷ []) (area_of area old)
       → Log mark records (area_of area new)
+  -- its gate, which is the closed one now, has the value 0
+  pub gate_written : (mark : List ℕ) (records : List Record) (last : Record) (sized : map size_of (records ++ last ∷ []) ≡ sizes) (log : Log mark (records ++ last ∷ []) (area_of area old))
+      → (here mark records last sized log).gate ≡ 0
 
 -- any bytes behind the closed gate, which keeps its value
 pub record MaySettle (area : Area) (sizes : List (ℕ × ℕ)) (old new : Areas) : Type 0 where

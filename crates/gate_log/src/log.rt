@@ -10,6 +10,7 @@ ghost use Rattle.gate_log.specs.declared.fault.LogFault.TheVariants.{NotOurs, Br
 ghost use Rattle.gate_log.specs.Opening.{IsForeign, IsBroken, BreaksOff, Starts, Shows, ShowsFront, OnlyFault, CountsFailure};
 ghost use Rattle.gate_log.specs.Steps.{MayAdd, Adds, HeadRead, FrontHeadRead, PayloadRead, MayScrub, Scrubs, MayDrop, Drops, MaySettle, Settles};
 ghost use Rattle.gate_log.specs.Places.{AreTied, sizes_at, size_in, gate_from};
+ghost use Rattle.gate_log.specs.Unsynced.{LosesNone};
 
 use crate::begin::{BLANK, FIRST_GATE, begin};
 use crate::close::close;
@@ -87,6 +88,8 @@ impl GateLog {
             → Runs D.moment D.may_leave D.left_since (Torn area 0 9) disk.old disk.new }
         ensures any_moment { Plain (D.told disk.old) (D.honest disk.old) → 9 < length (area_of area (D.seen disk.old))
             → Runs D.moment D.may_leave D.left_since Same disk.old disk.new }
+        ensures none_lost { Plain (D.told disk.old) (D.honest disk.old) → 9 < length (area_of area (D.seen disk.old))
+            → LosesNone D.moment D.may_leave D.left_since disk.old disk.new }
         ensures unwritten { Plain (D.told disk.old) (D.honest disk.old) → 9 < length (area_of area (D.seen disk.old))
             → D.seen disk.new ≡ D.seen disk.old }
 
@@ -126,6 +129,8 @@ impl GateLog {
             → Runs D.moment D.may_leave D.left_since (Torn area 0 9) disk.old disk.new }
         ensures any_moment { Plain (D.told disk.old) (D.honest disk.old) → 9 < length (area_of area (D.seen disk.old))
             → Runs D.moment D.may_leave D.left_since Same disk.old disk.new }
+        ensures none_lost { Plain (D.told disk.old) (D.honest disk.old) → 9 < length (area_of area (D.seen disk.old))
+            → LosesNone D.moment D.may_leave D.left_since disk.old disk.new }
         ensures unwritten { Plain (D.told disk.old) (D.honest disk.old) → 9 < length (area_of area (D.seen disk.old))
             → D.seen disk.new ≡ D.seen disk.old }
 
@@ -274,6 +279,8 @@ impl GateLog {
         ensures seen { Plain (D.told disk.old) (D.honest disk.old) → D.seen disk.new ≡ D.seen disk.old }
         ensures any_moment { Plain (D.told disk.old) (D.honest disk.old)
             → Runs D.moment D.may_leave D.left_since Same disk.old disk.new }
+        ensures none_lost { Plain (D.told disk.old) (D.honest disk.old)
+            → LosesNone D.moment D.may_leave D.left_since disk.old disk.new }
         ensures kind { SameKind D.told D.honest D.order D.orders disk.old disk.new }
         ensures cause { HasCause (D.faults disk.old) (D.faults disk.new) result }
     {
@@ -300,12 +307,14 @@ impl GateLog {
         ensures seen { Plain (D.told disk.old) (D.honest disk.old) → D.seen disk.new ≡ D.seen disk.old }
         ensures any_moment { Plain (D.told disk.old) (D.honest disk.old)
             → Runs D.moment D.may_leave D.left_since Same disk.old disk.new }
+        ensures none_lost { Plain (D.told disk.old) (D.honest disk.old)
+            → LosesNone D.moment D.may_leave D.left_since disk.old disk.new }
         ensures kind { SameKind D.told D.honest D.order D.orders disk.old disk.new }
         ensures cause { HasCause (D.faults disk.old) (D.faults disk.new) result }
     {
-        let span = self.head_span(i);
-        disk.read(self.area, span.at, &mut buf[..span.len as usize])?;
-        Ok(span.len as u16)
+        let head = self.head_span(i);
+        disk.read(self.area, head.at, &mut buf[..head.len as usize])?;
+        Ok(head.len as u16)
     }
 
     /// Reads the payload of record `i` to the front of `buf`, and gives its length. It makes no disk call where the
@@ -325,6 +334,8 @@ impl GateLog {
         ensures seen { Plain (D.told disk.old) (D.honest disk.old) → D.seen disk.new ≡ D.seen disk.old }
         ensures any_moment { Plain (D.told disk.old) (D.honest disk.old)
             → Runs D.moment D.may_leave D.left_since Same disk.old disk.new }
+        ensures none_lost { Plain (D.told disk.old) (D.honest disk.old)
+            → LosesNone D.moment D.may_leave D.left_since disk.old disk.new }
         ensures kind { SameKind D.told D.honest D.order D.orders disk.old disk.new }
         ensures cause { HasCause (D.faults disk.old) (D.faults disk.new) result }
     {
@@ -337,7 +348,7 @@ impl GateLog {
     }
 
     /// Writes zeros over the payload of record `i`, without a sync: one write, or none where it is empty, and one
-    /// more for each further 512 bytes.
+    /// more for each further 65,536 bytes.
     pub fn scrub<D: Disk>(&mut self, disk: &mut D, i: u32) -> Result<(), Failed>
         requires inside { i < length self.old.sizes }
         requires stands { Plain (D.told disk.old) (D.honest disk.old) → StandIn self.old.area self.old.sizes (D.may_leave disk.old) }

@@ -8,6 +8,7 @@ ghost use Rattle.gate_log.specs.declared.fault.LogFault.TheVariants.{NotOurs, Br
 ghost use Rattle.gate_log.specs.Opening.{IsForeign, IsBroken, OnlyFault, CountsFailure};
 ghost use Rattle.gate_log.specs.Looking.{Looked, Scanned, ScannedFront};
 ghost use Rattle.gate_log.specs.Places.{AreTied};
+ghost use Rattle.gate_log.specs.Unsynced.{LosesNone};
 
 use crate::commit::OPEN;
 use crate::fault::LogFault;
@@ -53,6 +54,8 @@ pub(crate) fn look<D: Disk>(
     ensures seen { Plain (D.told disk.old) (D.honest disk.old) → D.seen disk.new ≡ D.seen disk.old }
     ensures any_moment { Plain (D.told disk.old) (D.honest disk.old)
         → Runs D.moment D.may_leave D.left_since Same disk.old disk.new }
+    ensures none_lost { Plain (D.told disk.old) (D.honest disk.old)
+        → LosesNone D.moment D.may_leave D.left_since disk.old disk.new }
     ensures kind { SameKind D.told D.honest D.order D.orders disk.old disk.new }
     ensures cause { CountsFailure (D.faults disk.old) (D.faults disk.new) result }
 {
@@ -93,6 +96,8 @@ pub(crate) fn scan_area<D: Disk>(
     ensures seen { Plain (D.told disk.old) (D.honest disk.old) → D.seen disk.new ≡ D.seen disk.old }
     ensures any_moment { Plain (D.told disk.old) (D.honest disk.old)
         → Runs D.moment D.may_leave D.left_since Same disk.old disk.new }
+    ensures none_lost { Plain (D.told disk.old) (D.honest disk.old)
+        → LosesNone D.moment D.may_leave D.left_since disk.old disk.new }
     ensures kind { SameKind D.told D.honest D.order D.orders disk.old disk.new }
     ensures cause { CountsFailure (D.faults disk.old) (D.faults disk.new) result }
 {
@@ -147,6 +152,8 @@ pub(crate) fn find_front<D: Disk>(
     ensures seen { Plain (D.told disk.old) (D.honest disk.old) → D.seen disk.new ≡ D.seen disk.old }
     ensures any_moment { Plain (D.told disk.old) (D.honest disk.old)
         → Runs D.moment D.may_leave D.left_since Same disk.old disk.new }
+    ensures none_lost { Plain (D.told disk.old) (D.honest disk.old)
+        → LosesNone D.moment D.may_leave D.left_since disk.old disk.new }
     ensures kind { SameKind D.told D.honest D.order D.orders disk.old disk.new }
     ensures cause { CountsFailure (D.faults disk.old) (D.faults disk.new) result }
 {
@@ -183,6 +190,8 @@ pub(crate) fn find<D: Disk>(
     ensures seen { Plain (D.told disk.old) (D.honest disk.old) → D.seen disk.new ≡ D.seen disk.old }
     ensures any_moment { Plain (D.told disk.old) (D.honest disk.old)
         → Runs D.moment D.may_leave D.left_since Same disk.old disk.new }
+    ensures none_lost { Plain (D.told disk.old) (D.honest disk.old)
+        → LosesNone D.moment D.may_leave D.left_since disk.old disk.new }
     ensures kind { SameKind D.told D.honest D.order D.orders disk.old disk.new }
     ensures cause { CountsFailure (D.faults disk.old) (D.faults disk.new) result }
 {

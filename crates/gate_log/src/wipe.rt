@@ -9,9 +9,12 @@ ghost use Rattle.delf_disk.specs.Moments.{Runs};
 use delf_disk::{Area, Disk, Failed};
 
 /// The most zeros of one write.
-const PIECE: u64 = 512;
+const PIECE: u64 = 65_536;
 
-/// Writes zeros over a range, at most 512 in one write, and makes no call where the range is empty.
+/// Lent to each write: it takes no memory, and no room on the stack.
+static ZEROS: [u8; PIECE as usize] = [0; PIECE as usize];
+
+/// Writes zeros over a range, at most 65,536 in one write, and makes no call where the range is empty.
 pub(crate) fn wipe<D: Disk>(disk: &mut D, area: Area, at: u64, n: u64) -> Result<(), Failed>
     requires reach { at + n < 2 ^ 64 }
     requires within { Plain (D.told disk.old) (D.honest disk.old) → at + n ≤ length (area_of area (D.seen disk.old)) }
@@ -33,7 +36,7 @@ pub(crate) fn wipe<D: Disk>(disk: &mut D, area: Area, at: u64, n: u64) -> Result
 }
 
 fn put_zeros<D: Disk>(disk: &mut D, area: Area, at: u64, n: u64) -> Result<(), Failed>
-    requires piece { n ≤ 512 }
+    requires piece { n ≤ 65536 }
     requires within { Plain (D.told disk.old) (D.honest disk.old) → at ≤ length (area_of area (D.seen disk.old)) }
 
     ensures written { OnOk result (Plain (D.told disk.old) (D.honest disk.old)
@@ -43,8 +46,7 @@ fn put_zeros<D: Disk>(disk: &mut D, area: Area, at: u64, n: u64) -> Result<(), F
     ensures kind { SameKind D.told D.honest D.order D.orders disk.old disk.new }
     ensures cause { HasCause (D.faults disk.old) (D.faults disk.new) result }
 {
-    let zeros = [0u8; PIECE as usize];
-    disk.write(area, at, &zeros[..n as usize])
+    disk.write(area, at, &ZEROS[..n as usize])
 }
 
 /// Writes zeros from the byte behind a gate to the end of the area.

@@ -13,6 +13,7 @@ ghost use Rattle.gate_log.specs.declared.fault.LogFault.TheVariants.{NotOurs, Br
 ghost use Rattle.gate_log.specs.Opening.{IsForeign, IsBroken, Starts, Shows, OnlyFault, CountsFailure};
 ghost use Rattle.gate_log.specs.Steps.{MayAdd, Adds, HeadRead, PayloadRead, MayScrub, Scrubs, MayDrop, Drops, MaySettle, Settles};
 ghost use Rattle.gate_log.specs.Places.{size_in};
+ghost use Rattle.gate_log.specs.Unsynced.{LosesNone};
 ghost use Rattle.vault.specs.Items.{vault_mark, ItemRead, SealRead};
 ghost use Rattle.vault.specs.Fetching.{Fetched, Compared, Differs, CountsFetch};
 
@@ -73,6 +74,8 @@ impl Vault {
             → Runs D.moment D.may_leave D.left_since (Torn VaultArea 0 9) disk.old disk.new }
         ensures any_moment { Plain (D.told disk.old) (D.honest disk.old) → 9 < length (area_of VaultArea (D.seen disk.old))
             → Runs D.moment D.may_leave D.left_since Same disk.old disk.new }
+        ensures none_lost { Plain (D.told disk.old) (D.honest disk.old) → 9 < length (area_of VaultArea (D.seen disk.old))
+            → LosesNone D.moment D.may_leave D.left_since disk.old disk.new }
         ensures unwritten { Plain (D.told disk.old) (D.honest disk.old) → 9 < length (area_of VaultArea (D.seen disk.old))
             → D.seen disk.new ≡ D.seen disk.old }
 
@@ -171,6 +174,8 @@ impl Vault {
         ensures seen { Plain (D.told disk.old) (D.honest disk.old) → D.seen disk.new ≡ D.seen disk.old }
         ensures any_moment { Plain (D.told disk.old) (D.honest disk.old)
             → Runs D.moment D.may_leave D.left_since Same disk.old disk.new }
+        ensures none_lost { Plain (D.told disk.old) (D.honest disk.old)
+            → LosesNone D.moment D.may_leave D.left_since disk.old disk.new }
         ensures kind { SameKind D.told D.honest D.order D.orders disk.old disk.new }
         ensures cause { HasCause (D.faults disk.old) (D.faults disk.new) result }
     {
@@ -194,6 +199,8 @@ impl Vault {
         ensures seen { Plain (D.told disk.old) (D.honest disk.old) → D.seen disk.new ≡ D.seen disk.old }
         ensures any_moment { Plain (D.told disk.old) (D.honest disk.old)
             → Runs D.moment D.may_leave D.left_since Same disk.old disk.new }
+        ensures none_lost { Plain (D.told disk.old) (D.honest disk.old)
+            → LosesNone D.moment D.may_leave D.left_since disk.old disk.new }
         ensures kind { SameKind D.told D.honest D.order D.orders disk.old disk.new }
         ensures cause { HasCause (D.faults disk.old) (D.faults disk.new) result }
     {
@@ -201,7 +208,7 @@ impl Vault {
     }
 
     /// Writes zeros over the payload of record `i`, without a sync: one write, or none where it is empty, and one
-    /// more for each further 512 bytes.
+    /// more for each further 65,536 bytes.
     pub fn scrub<D: Disk>(&mut self, disk: &mut D, i: u32) -> Result<(), Failed>
         requires inside { i < length self.old.sizes }
         requires stands { Plain (D.told disk.old) (D.honest disk.old) → StandIn self.old.area self.old.sizes (D.may_leave disk.old) }
@@ -292,6 +299,8 @@ impl Vault {
         ensures seen { Plain (D.told disk.old) (D.honest disk.old) → D.seen disk.new ≡ D.seen disk.old }
         ensures any_moment { Plain (D.told disk.old) (D.honest disk.old)
             → Runs D.moment D.may_leave D.left_since Same disk.old disk.new }
+        ensures none_lost { Plain (D.told disk.old) (D.honest disk.old)
+            → LosesNone D.moment D.may_leave D.left_since disk.old disk.new }
         ensures kind { SameKind D.told D.honest D.order D.orders disk.old disk.new }
         ensures cause { HasCause (D.faults disk.old) (D.faults disk.new) result }
     {
@@ -328,6 +337,8 @@ impl Vault {
         ensures seen { Plain (D.told disk.old) (D.honest disk.old) → D.seen disk.new ≡ D.seen disk.old }
         ensures any_moment { Plain (D.told disk.old) (D.honest disk.old)
             → Runs D.moment D.may_leave D.left_since Same disk.old disk.new }
+        ensures none_lost { Plain (D.told disk.old) (D.honest disk.old)
+            → LosesNone D.moment D.may_leave D.left_since disk.old disk.new }
         ensures kind { SameKind D.told D.honest D.order D.orders disk.old disk.new }
         ensures cause { CountsFetch (D.faults disk.old) (D.faults disk.new) result }
     {
@@ -358,6 +369,8 @@ impl Vault {
         ensures seen { Plain (D.told disk.old) (D.honest disk.old) → D.seen disk.new ≡ D.seen disk.old }
         ensures any_moment { Plain (D.told disk.old) (D.honest disk.old)
             → Runs D.moment D.may_leave D.left_since Same disk.old disk.new }
+        ensures none_lost { Plain (D.told disk.old) (D.honest disk.old)
+            → LosesNone D.moment D.may_leave D.left_since disk.old disk.new }
         ensures kind { SameKind D.told D.honest D.order D.orders disk.old disk.new }
         ensures cause { HasCause (D.faults disk.old) (D.faults disk.new) result }
     {

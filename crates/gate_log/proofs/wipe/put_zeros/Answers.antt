@@ -14,11 +14,11 @@ pub returns-clause-written : goal.returns-clause-written
 returns-clause-written g c =
     let a = c.args in
     subst (λ (l : List ℕ). OnOk c.write.result (Plain (g.D.Disk.told a.disk.now) (g.D.Disk.honest a.disk.now) → Written a.area a.at l (g.D.Disk.seen a.disk.now) (g.D.Disk.seen c.write.new.self)))
-    (some_zeros a.n 512 c.requires.piece) c.write.ensures.written
+    (some_zeros a.n 65536 c.requires.piece) c.write.ensures.written
 
 pub returns-clause-any_moment : goal.returns-clause-any_moment
 returns-clause-any_moment g c = λ plain.
     let a = c.args in
-    let size : length (take {A = ℕ} a.n (replicate 512 0)) ≡ a.n = ap length (some_zeros a.n 512 c.requires.piece) ∙ length-replicate a.n 0 in
+    let size : length (take {A = ℕ} a.n (replicate 65536 0)) ≡ a.n = ap length (some_zeros a.n 65536 c.requires.piece) ∙ length-replicate a.n 0 in
     let at_start = started a.disk.now (Torn a.area a.at a.n) (λ x left. g.met.D.Disk.only_now a.disk.now x plain left) (λ x image. torn_same a.area a.at a.n x) in
     called at_start (c.write.ensures.images plain) (λ x after. (after.0, after.1, subst (λ (k : ℕ). Torn a.area a.at k after.0 x) size after.2))
