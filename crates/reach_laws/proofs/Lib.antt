@@ -1,4 +1,5 @@
 pub mod Calm
+pub mod Edges
 pub mod Gone
 pub mod Kept
 pub mod Parts

@@ -10,12 +10,18 @@ ghost use Rattle.delf_model.specs.State.{after};
 ghost use Rattle.delf_model.specs.Legal.{Legal, is_legal};
 ghost use Rattle.delf_model.specs.Sound.{LeavesByOwner, DoneErasesReached, KeepsRoom, OrderDoesNotMatter};
 ghost use Rattle.delf_model.specs.Worked.{played, plain_path, two_jobs, create, link, delete, Work, user, photo, owning};
-ghost use Rattle.reach_laws.specs.Laws.{OneMore, EachPart};
+ghost use Rattle.reach_laws.specs.Laws.{OneMore, EachPart, BornEdgesLeaveByOwner};
 
 /// An object leaves by the erasure of the job that owns it, and an edge by an unlink or by a cut of a job that owns an
 /// end of it.
 pub fn what_leaves_has_an_owner()
     ensures { (rules : RuleSet) (history : List Entry) → Legal rules history → LeavesByOwner rules history }
+{}
+
+/// An edge is meant by its key and birth: one of another birth in its place is another edge, so that no entry puts an edge
+/// over another.
+pub fn edges_leave_by_key_and_birth()
+    ensures { (rules : RuleSet) (history : List Entry) → Legal rules history → BornEdgesLeaveByOwner rules history }
 {}
 
 /// A job that owns nothing has erased exactly the objects that it reached, each once, its root among them, and owns
