@@ -1,6 +1,6 @@
 -- What a legal entry leaves of an owned object and of an edge with an owned end, and so of a held step.
 use Rattle.std.proofs.Common.{◌≡◌, ℕ, zero, suc, ◌+◌, ◌<◌, ◌≤◌, Bool, true, false, cond, not, ◌&&◌, ◌||◌, eqb, leb, List, [], ◌∷◌, ◌++◌, Option, Some, None, refl, sym, ap, ◌∙◌, subst, arith, inl, inr, ◌⊎◌}
-use Rattle.std.proofs.lemmas.Bool.{and_parts, and_from, eqb-true, eq-eqb, false≢true, or_left, or_right, leb-true, true-leb}
+use Rattle.std.proofs.lemmas.Bool.{and_parts, and_from, eqb-true, eq-eqb, false≢true, or_left, or_right, leb-true, le-leb}
 use Rattle.std.specs.Prelude.{find, filter, is_some, is_none, slice_get}
 use Rattle.std.specs.List.{list_any, list_all}
 use Rattle.std.specs.Option.{option_map}
@@ -323,7 +323,7 @@ step_legal : (s : State) (moment : ℕ) (what : What) → takes_row what ≡ tru
 step_legal s moment what takes low high line = by_what what takes line
   where
     times : (leb s.moment moment && leb moment greatest_moment) ≡ true
-    times = and_from (leb s.moment moment) (leb moment greatest_moment) (true-leb s.moment moment low) (true-leb moment greatest_moment high)
+    times = and_from (leb s.moment moment) (leb moment greatest_moment) (le-leb s.moment moment low) (le-leb moment greatest_moment high)
 
     by_what : (w : What) → takes_row w ≡ true → is_allowed s moment w ≡ true → is_legal_step s moment w ≡ true
     by_what (Create tag kind new size) is allowed = absurd (false≢true is)
@@ -407,3 +407,158 @@ cut_on s e job edge from to legal good held moves line spares = record {
   where
     key : EdgeKey
     key = key_of edge from to
+
+    allowed : is_allowed s e.moment e.what ≡ true
+    allowed = allowed_of s e legal
+
+    parts : (edge_stands s.graph key ≡ true) × ((is_owned_by s job from || is_owned_by s job to) ≡ true)
+    parts = and_parts (edge_stands s.graph key) (is_owned_by s job from || is_owned_by s job to) line
+
+    was : (row : EdgeRow) × (edge_at s.graph key ≡ Some row)
+    was = stood_edge (edge_at s.graph key) parts.0
+
+    key_is : was.0.key ≡ key
+    key_is = found_key s.graph.edges key was.0 was.1
+
+    ends : (owner s from ≡ Some job) ⊎ (owner s to ≡ Some job)
+    ends = owned_end s job from to (is_owned_by s job from) refl parts.1
+
+    own : HasOwnedEnd s key
+    own = elim ends [ inl source ↦ inl (job, source) | inr target ↦ inr (job, target) ]
+
+    -- an end of the edge is not erased, since the edge touches it
+    source_spared : (id : ℕ) → touches id key ≡ true → Spares e.what id
+    source_spared id here which is =
+        false≢true (sym (untouched s.graph id key
+        (not_true (is_touched s.graph id) (and_parts (is_owned_by s which id) (not (is_touched s.graph id)) (subst (λ (w : What). is_allowed s e.moment w ≡ true) is allowed)).1)
+        parts.0) ∙ here)
+
+    from_touches : touches from key ≡ true
+    from_touches = or_left (eqb from from) (eqb to from) (eq-eqb from from refl)
+
+    to_touches : touches to key ≡ true
+    to_touches = or_right (eqb from to) (eqb to to) (eq-eqb to to refl)
+
+    source_is : touches was.0.key.from key ≡ true
+    source_is = subst (λ (k : EdgeKey). touches k.from key ≡ true) (sym key_is) from_touches
+
+    target_is : touches was.0.key.to key ≡ true
+    target_is = subst (λ (k : EdgeKey). touches k.to key ≡ true) (sym key_is) to_touches
+
+    source_there : is_some (object_at s.graph was.0.key.from) ≡ true
+    source_there = subst (λ (k : EdgeKey). is_some (object_at s.graph k.from) ≡ true) (sym key_is) (good.ends.source key parts.0)
+
+    target_there : is_some (object_at s.graph was.0.key.to) ≡ true
+    target_there = subst (λ (k : EdgeKey). is_some (object_at s.graph k.to) ≡ true) (sym key_is) (good.ends.target key parts.0)
+
+    same : edge_at (step s e).graph key ≡ edge_at s.graph key
+    same = edge_on s e.moment e.what key was.0 allowed spares own was.1
+
+    owned_now : (is_owned_by (step s e) job from || is_owned_by (step s e) job to) ≡ true
+    owned_now =
+        elim ends [
+          | inl source ↦ or_left (is_owned_by (step s e) job from) (is_owned_by (step s e) job to)
+              (mine job (owner (step s e) from) (owner_on s e from job legal good.owned_stand (source_spared from from_touches) source))
+          | inr target ↦ or_right (is_owned_by (step s e) job from) (is_owned_by (step s e) job to)
+              (mine job (owner (step s e) to) (owner_on s e to job legal good.owned_stand (source_spared to to_touches) target))
+        ]
+
+    it_is : (it : Item) → would_log s (Cut job edge from to) ≡ Some it → item.Edge job was.0 (birth_of s.graph was.0.key.from) (birth_of s.graph was.0.key.to) ≡ it
+    it_is it is = item_is (sym (ap (edge_logged s.graph job) was.1) ∙ is)
+
+    needed_now : is_needed (step s e) was.0.birth ≡ true
+    needed_now = edge_needed (step s e) key was.0 (same ∙ was.1)
+
+    journal : (q : ℕ) × (q < s.len) × (last_carrier s was.0.birth ≡ Journal q)
+    journal = held.edges key was.0 was.1
+
+-- either
+
+held_on : (s : State) (e : Entry) (what : What) (at : ℕ) → is_legal s e ≡ true → Good s → PositionsHeld s → PayloadsMove s e → takes_row what ≡ true →
+    is_legal_step s at what ≡ true → erases_same what e.what ≡ false → StaysHeld s (step s e) what
+held_on s e (Create tag kind new size) at legal good held moves is line apart = absurd (false≢true is)
+held_on s e (Update tag target size) at legal good held moves is line apart = absurd (false≢true is)
+held_on s e (Link tag edge from to size) at legal good held moves is line apart = absurd (false≢true is)
+held_on s e (Unlink tag edge from to name) at legal good held moves is line apart = absurd (false≢true is)
+held_on s e (Delete tag root name) at legal good held moves is line apart = absurd (false≢true is)
+held_on s e (Restore tag which) at legal good held moves is line apart = absurd (false≢true is)
+held_on s e (Expire root) at legal good held moves is line apart = absurd (false≢true is)
+held_on s e (Cut job edge from to) at legal good held moves is line apart =
+    cut_on s e job edge from to legal good held moves (allowed_of s (record { moment = at; what = Cut job edge from to }) line)
+    (λ which same. false≢true (sym apart ∙ (ap (erases_same (Cut job edge from to)) same ∙ same_key_refl (key_of edge from to))))
+held_on s e (Erase job id) at legal good held moves is line apart =
+    erase_on s e job id legal good held moves (allowed_of s (record { moment = at; what = Erase job id }) line)
+    (λ which same. false≢true (sym apart ∙ (ap (erases_same (Erase job id)) same ∙ eq-eqb id id refl)))
+held_on s e (Put which i) at legal good held moves is line apart = absurd (false≢true is)
+held_on s e (Purge which) at legal good held moves is line apart = absurd (false≢true is)
+
+one_on : (rules : RuleSet) (h : List Entry) → Legal rules h → (what : What) (at : ℕ) (e : Entry) → takes_row what ≡ true → is_legal_step (after rules h) at what ≡ true →
+    is_legal (after rules h) e ≡ true → erases_same what e.what ≡ false → StaysHeld (after rules h) (step (after rules h) e) what
+one_on rules h legal what at e is line next apart =
+    let held = payloads_held rules h legal in
+    held_on (after rules h) e what at next (good_after rules h legal) held.held (held.moves e next) is line apart
+
+-- what stays from one state to a second and from there to a third stays
+onward : (s mid now : State) (what : What) → StaysHeld s mid what → StaysHeld mid now what → StaysHeld s now what
+onward s mid now what one two = record {
+  legal = two.legal;
+  logs = two.logs ∙ one.logs;
+  needed = λ it is. two.needed it (one.logs ∙ is);
+  carried = λ it is. two.carried it (one.logs ∙ is) ∙ one.carried it is;
+}
+
+not_false : (b : Bool) → not b ≡ true → b ≡ false
+not_false true is = absurd (false≢true is)
+not_false false is = refl
+
+-- at the start of a list
+here_on : (s : State) (what : What) (at : ℕ) → takes_row what ≡ true → Good s → PositionsHeld s → is_legal_step s at what ≡ true → StaysHeld s s what
+here_on s (Create tag kind new size) at is good held line = absurd (false≢true is)
+here_on s (Update tag target size) at is good held line = absurd (false≢true is)
+here_on s (Link tag edge from to size) at is good held line = absurd (false≢true is)
+here_on s (Unlink tag edge from to name) at is good held line = absurd (false≢true is)
+here_on s (Delete tag root name) at is good held line = absurd (false≢true is)
+here_on s (Restore tag which) at is good held line = absurd (false≢true is)
+here_on s (Expire root) at is good held line = absurd (false≢true is)
+here_on s (Cut job edge from to) at is good held line = record {
+  legal = λ moment low high. step_legal s moment (Cut job edge from to) refl low high (allowed_of s (record { moment = at; what = Cut job edge from to }) line);
+  logs = refl;
+  needed = λ it logged. by_row (edge_at s.graph (key_of edge from to)) refl it logged;
+  carried = λ it logged. refl;
+}
+  where
+    by_row : (o : Option EdgeRow) → edge_at s.graph (key_of edge from to) ≡ o → (it : Item) → edge_logged s.graph job o ≡ Some it → is_needed s (position_of it) ≡ true
+    by_row None found it logged = absurd (cc logged)
+    by_row (Some row) found it logged = subst (λ (x : Item). is_needed s (position_of x) ≡ true) (item_is logged) (edge_needed s (key_of edge from to) row found)
+here_on s (Erase job id) at is good held line = record {
+  legal = λ moment low high. step_legal s moment (Erase job id) refl low high (allowed_of s (record { moment = at; what = Erase job id }) line);
+  logs = refl;
+  needed = λ it logged. by_row (object_at s.graph id) refl it logged;
+  carried = λ it logged. refl;
+}
+  where
+    by_row : (o : Option ObjectRow) → object_at s.graph id ≡ o → (it : Item) → object_logged job o ≡ Some it → is_needed s (position_of it) ≡ true
+    by_row None found it logged = absurd (cc logged)
+    by_row (Some row) found it logged = subst (λ (x : Item). is_needed s (position_of x) ≡ true) (item_is logged) (object_needed s id row found)
+here_on s (Put which i) at is good held line = absurd (false≢true is)
+here_on s (Purge which) at is good held line = absurd (false≢true is)
+
+many_on : (rules : RuleSet) (h : List Entry) → Legal rules h → (what : What) (at : ℕ) (es : List Entry) → takes_row what ≡ true → is_legal_step (after rules h) at what ≡ true →
+    is_legal_from (after rules h) es ≡ true → none_erases what es ≡ true → StaysHeld (after rules h) (run (after rules h) es) what
+many_on rules h legal what at [] is line next spares = here_on (after rules h) what at is (good_after rules h legal) (payloads_held rules h legal).held line
+many_on rules h legal what at (e ∷ es) is line next spares =
+    let parts = and_parts (is_legal (after rules h) e) (is_legal_from (step (after rules h) e) es) next in
+    let apart = and_parts (leaves_row what e) (none_erases what es) spares in
+    let one : StaysHeld (after rules h) (step (after rules h) e) what = one_on rules h legal what at e is line parts.0 (not_false (erases_same what e.what) apart.0) in
+    let low : e.moment ≤ e.moment = omega arith in
+    onward (after rules h) (step (after rules h) e) (run (step (after rules h) e) es) what one
+    (subst (λ (s : State). is_legal_step s e.moment what ≡ true → is_legal_from s es ≡ true → StaysHeld s (run s es) what) (after_push rules h e)
+    (λ (now : is_legal_step (after rules (h ++ e ∷ [])) e.moment what ≡ true) (more : is_legal_from (after rules (h ++ e ∷ [])) es ≡ true).
+    many_on rules (h ++ e ∷ []) (Legal_push rules h e legal parts.0) what e.moment es is now more apart.1)
+    (one.legal e.moment low (moment_within (after rules h) e parts.0)) parts.1)
+
+pub held_steps_stay : (rules : RuleSet) (h : List Entry) → Legal rules h → HeldStepsStay rules h
+held_steps_stay rules h legal = record {
+  one = λ what at e is line next apart. one_on rules h legal what at e is line next apart;
+  many = λ what at es is line next spares. many_on rules h legal what at es is line next spares;
+}
