@@ -21,10 +21,14 @@ use Rattle.delf_model.specs.declared.entry.Tag.{Tag}
 use Rattle.delf_model.specs.declared.entry.What.{What}
 use Rattle.delf_model.specs.declared.entry.What.TheVariants.{Create, Update, Link, Unlink, Delete, Restore, Expire, Cut, Erase, Put, Purge}
 use Rattle.delf_model.specs.RuleSet.{RuleSet, is_deep, is_refcount, is_deep_shape, is_refcount_shape, is_deep_rule, is_refcount_rule}
-use Rattle.delf_model.specs.Checked.{KeepsRules, takes, takes_type, condemns, condemns_shape, condemns_rule, target_of, shape_to}
+use Rattle.delf_model.specs.Checked.{KeepsRules, takes, takes_type, may_condemn, condemns_shape, condemns_rule, target_of, shape_to}
 use Rattle.delf_model.specs.Graph.{Graph, PutsObject, TakesObject, RewritesObject, TakesEdge, changed, object_at, edge_stands, stands, is_born_at, rewritten, has_refs, has_kind, IsGraph}
-use Rattle.delf_model.specs.State.{State, Logged, start, step, run, after, owner, is_owned_by, graph_after, key_of, new_object, judged, taken, put_change, put_unless, unlink_start, condemns as passes_on}
-use Rattle.delf_model.specs.Legal.{is_legal, is_legal_from, is_allowed, refusals, is_direct, not_direct_rule, not_direct_row, not_direct, is_due_row, Legal}
+use Rattle.delf_model.specs.State.{State, Logged, start, owner, is_owned_by}
+use Rattle.delf_model.specs.Step.{step, run, after, graph_after, new_object, put_change, put_unless}
+use Rattle.delf_model.specs.Owners.{key_of, unlink_start, condemns as passes_on}
+use Rattle.delf_model.specs.Puts.{judged, taken}
+use Rattle.delf_model.specs.Legal.{is_legal, is_legal_from, is_allowed, is_due_row, Legal}
+use Rattle.delf_model.specs.Reply.{refusals, is_direct, not_direct_rule, not_direct_row, not_direct}
 use Rattle.delf_model.specs.Sound.{ObjectsLeave}
 use Rattle.delf_model.proofs.Graphs.{find-put_object, find-filter_object, find-rewritten}
 use Rattle.delf_model.proofs.Lines.{none_of, allowed_of, numbered_of, name_free, edge_there}

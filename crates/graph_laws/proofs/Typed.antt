@@ -19,8 +19,12 @@ use Rattle.delf_model.specs.declared.entry.What.{What}
 use Rattle.delf_model.specs.declared.entry.What.TheVariants.{Create, Update, Link, Unlink, Delete, Restore, Expire, Cut, Erase, Put, Purge}
 use Rattle.delf_model.specs.RuleSet.{RuleSet}
 use Rattle.delf_model.specs.Graph.{Graph, PutsObject, TakesObject, RewritesObject, PutsEdge, TakesEdge, changed, object_at, edge_at, edge_stands, stands, is_born_at, touches, is_touched, rewritten, has_kind}
-use Rattle.delf_model.specs.State.{State, Logged, Handled, step, graph_after, items_after, key_of, new_object, new_edge, due_of, edge_item, object_item, unhandled, handled_at, outcome, judged, taken, put_change, put_unless, birth_of, birth_of_row, is_owned_by}
-use Rattle.delf_model.specs.Legal.{is_legal, is_allowed, is_numbered, refusals, kind_differs, wrong_source, wrong_target}
+use Rattle.delf_model.specs.State.{State, Logged, Handled, is_owned_by}
+use Rattle.delf_model.specs.Step.{step, graph_after, items_after, new_object, new_edge, due_of, edge_item, object_item, unhandled, handled_at, outcome, put_change, put_unless, birth_of, birth_of_row}
+use Rattle.delf_model.specs.Owners.{key_of}
+use Rattle.delf_model.specs.Puts.{judged, taken}
+use Rattle.delf_model.specs.Legal.{is_legal, is_allowed, is_numbered}
+use Rattle.delf_model.specs.Reply.{refusals, kind_differs, wrong_source, wrong_target}
 use Rattle.delf_model.proofs.Graphs.{find-put_object, find-filter_object, find-rewritten}
 use Rattle.delf_model.proofs.Lines.{none_of, allowed_of, numbered_of, there, name_free}
 use Rattle.delf_model.proofs.Ends.{Fits, fits_of, edge_came, edge_was, untouched}

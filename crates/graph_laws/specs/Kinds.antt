@@ -8,10 +8,11 @@ use Rattle.delf_model.specs.declared.entry.Entry.{Entry}
 use Rattle.delf_model.specs.declared.entry.Tag.{Tag}
 use Rattle.delf_model.specs.declared.entry.What.TheVariants.{Unlink, Delete, Expire, Cut, Erase}
 use Rattle.delf_model.specs.RuleSet.{RuleSet, is_refcount}
-use Rattle.delf_model.specs.Checked.{takes, condemns}
+use Rattle.delf_model.specs.Checked.{takes, may_condemn}
 use Rattle.delf_model.specs.Graph.{object_at, stands}
-use Rattle.delf_model.specs.State.{Logged, after, owner}
-use Rattle.delf_model.specs.Legal.{is_direct}
+use Rattle.delf_model.specs.State.{Logged, owner}
+use Rattle.delf_model.specs.Step.{after}
+use Rattle.delf_model.specs.Reply.{is_direct}
 
 -- an object of this id, type and due moment belongs to the job: the job's entry names it as the root, or the job cut an
 -- edge into it

@@ -6,7 +6,7 @@ ghost use Rattle.std.specs.Prelude.{List};
 ghost use Rattle.delf_model.specs.declared.entry.Entry.{Entry};
 ghost use Rattle.delf_model.specs.RuleSet.{RuleSet};
 ghost use Rattle.delf_model.specs.Graph.{IsGraph};
-ghost use Rattle.delf_model.specs.State.{after};
+ghost use Rattle.delf_model.specs.Step.{after};
 ghost use Rattle.delf_model.specs.Legal.{Legal};
 ghost use Rattle.delf_model.specs.Checked.{KeepsRules};
 ghost use Rattle.graph_laws.specs.Kinds.{OwnedForCause, NotDeletedStays, DirectlyOnlyIsRoot};

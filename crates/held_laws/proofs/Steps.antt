@@ -15,8 +15,13 @@ use Rattle.delf_model.specs.declared.entry.What.{What}
 use Rattle.delf_model.specs.declared.entry.What.TheVariants.{Create, Update, Link, Unlink, Delete, Restore, Expire, Cut, Erase, Put, Purge}
 use Rattle.delf_model.specs.RuleSet.{RuleSet}
 use Rattle.delf_model.specs.Graph.{Graph, PutsObject, TakesObject, RewritesObject, PutsEdge, TakesEdge, changed, has_id, has_key, same_key, object_at, edge_at, edge_stands, stands, is_born_at, touches, touches_row, is_touched, rewritten, put_edge, is_other_edge}
-use Rattle.delf_model.specs.State.{State, Logged, step, run, after, owner, is_owned_by, is_job, graph_after, key_of, new_object, new_edge, judged, taken, put_change, put_unless, birth_of, birth_of_row, position_of}
-use Rattle.delf_model.specs.Legal.{is_legal, is_legal_from, is_allowed, refusals, Legal, greatest_moment}
+use Rattle.delf_model.specs.State.{State, Logged, owner, is_owned_by, is_job, position_of}
+use Rattle.delf_model.specs.Step.{step, run, after, graph_after, new_object, new_edge, put_change, put_unless, birth_of, birth_of_row}
+use Rattle.delf_model.specs.Owners.{key_of}
+use Rattle.delf_model.specs.Puts.{judged, taken}
+use Rattle.delf_model.specs.Legal.{is_legal, is_legal_from, is_allowed, Legal}
+use Rattle.delf_model.specs.Reply.{refusals}
+use Rattle.delf_model.specs.Room.{greatest_moment}
 use Rattle.delf_model.specs.Order.{is_legal_step, erases_same}
 use Rattle.delf_model.specs.Payloads.{is_needed, last_carrier, Journal, Vault, object_needs, edge_needs, item_needs, position_of_object, position_of_edge}
 use Rattle.delf_model.proofs.Graphs.{same_key_is, same_key_refl, find-put_object, find-filter_object, find-rewritten, find-put_edge, find-filter_edge}

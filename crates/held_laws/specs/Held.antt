@@ -10,8 +10,11 @@ use Rattle.delf_model.specs.declared.entry.What.{What}
 use Rattle.delf_model.specs.declared.entry.What.TheVariants.{Cut, Erase}
 use Rattle.delf_model.specs.RuleSet.{RuleSet}
 use Rattle.delf_model.specs.Graph.{Graph, object_at, edge_at}
-use Rattle.delf_model.specs.State.{State, step, run, after, position_of, birth_of, key_of}
-use Rattle.delf_model.specs.Legal.{is_legal, is_legal_from, greatest_moment}
+use Rattle.delf_model.specs.State.{State, position_of}
+use Rattle.delf_model.specs.Step.{step, run, after, birth_of}
+use Rattle.delf_model.specs.Owners.{key_of}
+use Rattle.delf_model.specs.Legal.{is_legal, is_legal_from}
+use Rattle.delf_model.specs.Room.{greatest_moment}
 use Rattle.delf_model.specs.Order.{is_legal_step, erases_same}
 use Rattle.delf_model.specs.Payloads.{is_needed, last_carrier}
 

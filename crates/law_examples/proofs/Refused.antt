@@ -10,7 +10,9 @@ use Rattle.delf_model.specs.declared.entry.What.{What}
 use Rattle.delf_model.specs.declared.entry.What.TheVariants.{Create, Unlink, Erase, Cut, Put}
 use Rattle.delf_model.specs.declared.schema.EdgeShape.{EdgeShape}
 use Rattle.delf_model.specs.Graph.{IsGraph, stands}
-use Rattle.delf_model.specs.State.{after, key_of, is_owned_by}
+use Rattle.delf_model.specs.Step.{after}
+use Rattle.delf_model.specs.Owners.{key_of}
+use Rattle.delf_model.specs.State.{is_owned_by}
 use Rattle.delf_model.specs.Order.{is_legal_step}
 use Rattle.delf_model.specs.Sound.{TakesEdgeAway, ByUnlink, ByCut, EdgesLeave, DoneErasesReached, FirstIsLegal}
 use Rattle.delf_model.specs.Worked.{example_rules, user, photo, owning, object}

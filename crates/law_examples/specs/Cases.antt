@@ -3,7 +3,8 @@ use Rattle.std.specs.Prelude.{ℕ, List, [], ◌∷◌, ◌++◌}
 use Rattle.delf_model.specs.declared.entry.Entry.{Entry}
 use Rattle.delf_model.specs.declared.entry.What.TheVariants.{Create, Link, Delete, Restore, Cut, Erase, Put}
 use Rattle.delf_model.specs.Graph.{Graph}
-use Rattle.delf_model.specs.State.{State, start, after}
+use Rattle.delf_model.specs.State.{State, start}
+use Rattle.delf_model.specs.Step.{after}
 use Rattle.delf_model.specs.Worked.{example_rules, user, photo, owning, object, edge}
 use Rattle.history_laws.specs.Parts.{tag, at_zero, deleted}
 

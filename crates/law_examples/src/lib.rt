@@ -6,8 +6,10 @@ ghost use Rattle.std.specs.Prelude.{◌≡◌, [], ◌∷◌, Some, None, true, 
 ghost use Rattle.delf_model.specs.declared.call.Refusal.TheVariants.{Full, WrongEnd};
 ghost use Rattle.delf_model.specs.declared.entry.What.TheVariants.{Create, Link, Erase, Cut, Put};
 ghost use Rattle.delf_model.specs.Graph.{IsGraph};
-ghost use Rattle.delf_model.specs.State.{start, after};
-ghost use Rattle.delf_model.specs.Legal.{is_legal_from, is_legal, refused};
+ghost use Rattle.delf_model.specs.State.{start};
+ghost use Rattle.delf_model.specs.Step.{after};
+ghost use Rattle.delf_model.specs.Legal.{is_legal_from, is_legal};
+ghost use Rattle.delf_model.specs.Reply.{refused};
 ghost use Rattle.delf_model.specs.Order.{first_step, is_legal_step};
 ghost use Rattle.delf_model.specs.Sound.{EdgesLeave, DoneErasesReached, FirstIsLegal};
 ghost use Rattle.delf_model.specs.Worked.{example_rules, user, photo, owning, object, edge};

@@ -12,8 +12,12 @@ use Rattle.delf_model.specs.declared.entry.What.{What}
 use Rattle.delf_model.specs.declared.entry.What.TheVariants.{Create, Update, Link, Unlink, Delete, Restore, Expire, Cut, Erase, Put, Purge}
 use Rattle.delf_model.specs.RuleSet.{RuleSet}
 use Rattle.delf_model.specs.Graph.{Graph, PutsEdge, TakesEdge, changed, edge_at, edge_stands, same_key}
-use Rattle.delf_model.specs.State.{State, Logged, step, is_owned_by, judged, put_change, put_unless, key_of, new_edge}
-use Rattle.delf_model.specs.Legal.{is_legal, is_allowed, refusals, Legal}
+use Rattle.delf_model.specs.State.{State, Logged, is_owned_by}
+use Rattle.delf_model.specs.Step.{step, put_change, put_unless, new_edge}
+use Rattle.delf_model.specs.Puts.{judged}
+use Rattle.delf_model.specs.Owners.{key_of}
+use Rattle.delf_model.specs.Legal.{is_legal, is_allowed, Legal}
+use Rattle.delf_model.specs.Reply.{refusals}
 use Rattle.delf_model.specs.Sound.{ByUnlink, ByCut}
 use Rattle.delf_model.proofs.Graphs.{find-put_edge, find-filter_edge, same_key_is}
 use Rattle.delf_model.proofs.Lines.{none_of, allowed_of, key_free}

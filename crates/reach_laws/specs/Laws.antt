@@ -6,9 +6,11 @@ use Rattle.delf_model.specs.declared.entry.Entry.{Entry}
 use Rattle.delf_model.specs.declared.entry.What.{What}
 use Rattle.delf_model.specs.RuleSet.{RuleSet}
 use Rattle.delf_model.specs.Graph.{Graph, edge_at}
-use Rattle.delf_model.specs.State.{State, step, after, owner}
+use Rattle.delf_model.specs.State.{State, owner}
+use Rattle.delf_model.specs.Step.{step, after}
 use Rattle.delf_model.specs.Store.{EndsStand}
-use Rattle.delf_model.specs.Legal.{Legal, EachStep, is_legal, greatest_moment}
+use Rattle.delf_model.specs.Legal.{Legal, EachStep, is_legal}
+use Rattle.delf_model.specs.Room.{greatest_moment}
 use Rattle.delf_model.specs.Sound.{TakesEdgeAway}
 use Rattle.delf_model.proofs.Plain.{plain_owner}
 

@@ -6,7 +6,7 @@ ghost use Rattle.std.specs.Prelude.{◌≡◌, ◌∷◌, [], ℕ, List, true, f
 ghost use Rattle.delf_model.specs.declared.entry.Entry.{Entry};
 ghost use Rattle.delf_model.specs.declared.entry.What.TheVariants.{Cut, Erase};
 ghost use Rattle.delf_model.specs.RuleSet.{RuleSet};
-ghost use Rattle.delf_model.specs.State.{after};
+ghost use Rattle.delf_model.specs.Step.{after};
 ghost use Rattle.delf_model.specs.Legal.{Legal, is_legal};
 ghost use Rattle.delf_model.specs.Sound.{LeavesByOwner, DoneErasesReached, KeepsRoom, OrderDoesNotMatter};
 ghost use Rattle.delf_model.specs.Worked.{played, plain_path, two_jobs, create, link, delete, Work, user, photo, owning};
