@@ -10,7 +10,8 @@ use Rattle.delf_model.specs.Room.{room, room_limit, greatest_moment}
 use Rattle.delf_model.specs.Sound.{LeavesByOwner, ObjectsLeave, EdgesLeave, KeepsRoom, RaisesNot}
 use Rattle.delf_model.proofs.Runs.{each_step, good_run, good_take, after_push}
 use Rattle.delf_model.proofs.Lines.{allowed_of, moment_within}
-use Rattle.delf_model.proofs.Leaves.{objects_leave, edges_leave}
+use Rattle.delf_model.proofs.Leaves.{objects_leave}
+use Rattle.delf_model.proofs.Edges.{edges_leave}
 use Rattle.delf_model.proofs.Owners.{OwnedStand, owned_stand_step}
 use Rattle.delf_model.proofs.Plain.{plain_owner, owner_plain}
 use Rattle.delf_model.proofs.Ends.{ends_step}

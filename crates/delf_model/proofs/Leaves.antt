@@ -19,7 +19,7 @@ use Rattle.delf_model.specs.Puts.{judged, taken}
 use Rattle.delf_model.specs.Owners.{key_of}
 use Rattle.delf_model.specs.Legal.{is_legal, is_allowed}
 use Rattle.delf_model.specs.Reply.{refusals}
-use Rattle.delf_model.specs.Sound.{ObjectsLeave, EdgesLeave, ByUnlink, ByCut}
+use Rattle.delf_model.specs.Sound.{ObjectsLeave}
 use Rattle.delf_model.proofs.Graphs.{find-put_object, find-filter_object, find-rewritten, find-put_edge, find-filter_edge, same_key_is}
 use Rattle.delf_model.proofs.Lines.{none_of, allowed_of, name_free}
 
@@ -122,44 +122,8 @@ pub edge_stands_put : (g : Graph) (row : EdgeRow) (key : EdgeKey) → edge_stand
 edge_stands_put g row key stood =
     ap (λ (o : Option EdgeRow). is_some o) (find-put_edge row g.edges key) ∙ hit_edge_free row (same_key row.key key) (edge_at g key) stood
 
-hit_edge_gone : (hit : Bool) (o : Option EdgeRow) → is_some o ≡ true → is_some (cond hit None o) ≡ false → hit ≡ true
-hit_edge_gone true o stood gone = refl
-hit_edge_gone false o stood gone = absurd (false≢true (sym gone ∙ stood))
-
-pub edge_stands_taken : (g : Graph) (gone key : EdgeKey) → edge_stands g key ≡ true → edge_stands (changed g (TakesEdge gone)) key ≡ false → gone ≡ key
-edge_stands_taken g gone key stood left =
-    same_key_is gone key (hit_edge_gone (same_key gone key) (edge_at g key) stood
-    (sym (ap (λ (o : Option EdgeRow). is_some o) (find-filter_edge gone g.edges key)) ∙ left))
-
 pub edge_stands_put_item : (s : State) (it : Item) (cause : Option Cause) (key : EdgeKey) → edge_stands s.graph key ≡ true →
     edge_stands (changed s.graph (put_unless cause it)) key ≡ true
 edge_stands_put_item s it (Some cause) key stood = stood
 edge_stands_put_item s (item.Object job row) None key stood = stood
 edge_stands_put_item s (item.Edge job row from_birth to_birth) None key stood = edge_stands_put s.graph row key stood
-
-edge_stands_put_change : (s : State) (o : Option Logged) (key : EdgeKey) → edge_stands s.graph key ≡ true → edge_stands (changed s.graph (put_change s o)) key ≡ true
-edge_stands_put_change s None key stood = stood
-edge_stands_put_change s (Some logged) key stood = edge_stands_put_item s logged.item (judged s logged.item) key stood
-
-edges_by : (s : State) (moment : ℕ) (what : What) → is_allowed s moment what ≡ true → EdgesLeave s what (step s (record { moment = moment; what = what }))
-edges_by s moment (Create tag kind new size) line key stood left = contradicts _ stood left
-edges_by s moment (Update tag target size) line key stood left = contradicts _ stood left
-edges_by s moment (Link tag edge from to size) line key stood left = contradicts _ (edge_stands_put s.graph (new_edge s edge from to size) key stood) left
-edges_by s moment (Unlink tag edge from to name) line key stood left =
-    let same : key_of edge from to ≡ key = edge_stands_taken s.graph (key_of edge from to) key stood left in
-    ByUnlink tag name (ap (λ (k : EdgeKey). Unlink tag k.edge k.from k.to name) same)
-edges_by s moment (Delete tag root name) line key stood left = contradicts _ stood left
-edges_by s moment (Restore tag job) line key stood left = contradicts _ stood left
-edges_by s moment (Expire root) line key stood left = contradicts _ stood left
-edges_by s moment (Cut job edge from to) line key stood left =
-    let same : key_of edge from to ≡ key = edge_stands_taken s.graph (key_of edge from to) key stood left in
-    ByCut job (ap (λ (k : EdgeKey). Cut job k.edge k.from k.to) same)
-    (subst (λ (k : EdgeKey). (is_owned_by s job k.from || is_owned_by s job k.to) ≡ true) same
-    (and_parts (edge_stands s.graph (key_of edge from to)) (is_owned_by s job from || is_owned_by s job to) line).1)
-edges_by s moment (Erase job gone) line key stood left = contradicts _ stood left
-edges_by s moment (Put job i) line key stood left = contradicts _ (edge_stands_put_change s (slice_get s.items i) key stood) left
-edges_by s moment (Purge job) line key stood left = contradicts _ stood left
-
--- an edge that leaves is unlinked, or cut by a job that owns an end of it
-pub edges_leave : (s : State) (e : Entry) → is_legal s e ≡ true → EdgesLeave s e.what (step s e)
-edges_leave s e legal = edges_by s e.moment e.what (allowed_of s e legal)

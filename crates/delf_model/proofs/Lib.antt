@@ -1,4 +1,5 @@
 pub mod CheckedLemmas
+pub mod Edges
 pub mod Ends
 pub mod Good
 pub mod Graphs

@@ -49,6 +49,14 @@ is_born_at birth None = false
 abbrev pub stands : Graph → ℕ → ℕ → Bool
 stands g id birth = is_born_at birth (object_at g id)
 
+abbrev pub is_edge_born_at : ℕ → Option EdgeRow → Bool
+is_edge_born_at birth (Some row) = nat_eq row.birth birth
+is_edge_born_at birth None = false
+
+-- whether the edge with this key stands and was born there; an edge of the graph is meant by its key and birth
+abbrev pub edge_stands_born : Graph → EdgeKey → ℕ → Bool
+edge_stands_born g key birth = is_edge_born_at birth (edge_at g key)
+
 abbrev pub touches : ℕ → EdgeKey → Bool
 touches id key = nat_eq key.from id || nat_eq key.to id
 

@@ -8,7 +8,7 @@ use Rattle.delf_model.specs.declared.entry.Tag.{Tag}
 use Rattle.delf_model.specs.declared.entry.What.{What}
 use Rattle.delf_model.specs.declared.entry.What.TheVariants.{Unlink, Delete, Restore, Cut, Erase, Put}
 use Rattle.delf_model.specs.RuleSet.{RuleSet}
-use Rattle.delf_model.specs.Graph.{Graph, object_at, edge_at, edge_stands, stands, touches}
+use Rattle.delf_model.specs.Graph.{Graph, object_at, edge_at, edge_stands, edge_stands_born, stands, touches}
 use Rattle.delf_model.specs.State.{State, Logged, Handled, owner, owned, left, is_owned_by, job_of, is_restored, job_row}
 use Rattle.delf_model.specs.Step.{after}
 use Rattle.delf_model.specs.Puts.{judged}
@@ -33,10 +33,10 @@ pub data TakesEdgeAway (s : State) (key : EdgeKey) (what : What) : Type 0 where
   ByCut : (job : ℕ) → what ≡ Cut job key.edge key.from key.to →
       (is_owned_by s job key.from || is_owned_by s job key.to) ≡ true → TakesEdgeAway s key what
 
--- an edge that leaves is unlinked, or cut by a job that owns an end of it
+-- an edge, meant by its key and birth, that leaves is unlinked, or cut by a job that owns an end of it
 abbrev pub EdgesLeave : State → What → State → Type 0
 EdgesLeave before what now =
-    (key : EdgeKey) → edge_stands before.graph key ≡ true → edge_stands now.graph key ≡ false →
+    (key : EdgeKey) (birth : ℕ) → edge_stands_born before.graph key birth ≡ true → edge_stands_born now.graph key birth ≡ false →
     TakesEdgeAway before key what
 
 pub record LeavesByOwner (rules : RuleSet) (history : List Entry) : Type 0 where

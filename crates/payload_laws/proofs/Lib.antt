@@ -6,3 +6,4 @@ pub mod Placed
 pub mod Moves
 pub mod Taken
 pub mod Given
+pub mod Damage

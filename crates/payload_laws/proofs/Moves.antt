@@ -77,7 +77,7 @@ row_needed s source p size (ByEdge row here is at sized) =
     or_left (list_any (object_needs p) s.graph.objects || list_any (edge_needs p) s.graph.edges) (list_any (item_needs s.jobs p) s.items)
     (or_right (list_any (object_needs p) s.graph.objects) (list_any (edge_needs p) s.graph.edges) (in_any (edge_needs p) s.graph.edges row here (eq-eqb row.birth p (sym at))))
 
-item_needed : (s : State) (p i : ℕ) (l : Logged) → slice_get s.items i ≡ Some l → position_of l.item ≡ p → is_purged s.jobs (job_of l.item) ≡ false → was_put l.handled ≡ false →
+pub item_needed : (s : State) (p i : ℕ) (l : Logged) → slice_get s.items i ≡ Some l → position_of l.item ≡ p → is_purged s.jobs (job_of l.item) ≡ false → was_put l.handled ≡ false →
     is_needed s p ≡ true
 item_needed s p i l at holds unpurged waits =
     or_right (list_any (object_needs p) s.graph.objects || list_any (edge_needs p) s.graph.edges) (list_any (item_needs s.jobs p) s.items)

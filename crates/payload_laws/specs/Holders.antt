@@ -1,5 +1,5 @@
 -- Who holds a payload, and how one entry moves it from one record to another.
-use Rattle.std.specs.Prelude.{◌≡◌, ◌⊎◌, ℕ, ◌+◌, ◌<◌, Bool, true, false, cond, ◌&&◌, nat_eq, not, List, [], ◌∷◌, Option, Some, None, length, slice_get, take, is_none, Contains}
+use Rattle.std.specs.Prelude.{◌≡◌, ◌≢◌, ◌⊎◌, ℕ, ◌+◌, ◌<◌, Bool, true, false, cond, ◌&&◌, nat_eq, not, List, [], ◌∷◌, Option, Some, None, length, slice_get, take, is_none, Contains}
 use Rattle.delf_model.specs.declared.rows.ObjectRow.{ObjectRow}
 use Rattle.delf_model.specs.declared.rows.EdgeKey.{EdgeKey}
 use Rattle.delf_model.specs.declared.rows.EdgeRow.{EdgeRow}
@@ -14,7 +14,7 @@ use Rattle.delf_model.specs.Puts.{judged}
 use Rattle.delf_model.specs.Owners.{key_of}
 use Rattle.delf_model.specs.Legal.{is_legal}
 use Rattle.delf_model.specs.Report.{was_put}
-use Rattle.delf_model.specs.Payloads.{is_needed, last_carrier, Carrier, Journal, Vault, position_of_object, position_of_edge}
+use Rattle.delf_model.specs.Payloads.{Payloads, is_needed, last_carrier, Carrier, Journal, Vault, position_of_object, position_of_edge, payload_at}
 
 -- a record whose payload range has to stay: the last carrier of a needed position
 abbrev pub IsLive : State → Carrier → Type 0
@@ -129,3 +129,7 @@ pub record PayloadsAreHeld (rules : RuleSet) (history : List Entry) : Type 0 whe
   pub edge_sizes : (key : EdgeKey) (row : EdgeRow) (q : ℕ) → edge_at (after rules history).graph key ≡ Some row →
       last_carrier (after rules history) row.birth ≡ Journal q → HasSize rules history q row.size
   pub moves : (e : Entry) → is_legal (after rules history) e ≡ true → PayloadsMove (after rules history) e
+
+-- the seal of an item is not the digest of its payload
+abbrev pub SealDiffers : (List ℕ → List ℕ) → Payloads → ℕ → Logged → Type 0
+SealDiffers digest e i logged = slice_get e.seals i ≢ Some (digest (payload_at e (position_of logged.item)))

@@ -2,9 +2,13 @@
 ghost use Rattle.std.specs.Prelude.{◌≡◌, [], ◌∷◌, ◌++◌, true, false};
 ghost use Rattle.delf_model.specs.declared.ids.JobName.TheVariants.{Named};
 ghost use Rattle.delf_model.specs.declared.entry.What.TheVariants.{Update, Put, Purge};
-ghost use Rattle.delf_model.specs.Payloads.{Journal, Vault, is_needed, last_carrier};
-ghost use Rattle.delf_model.specs.Worked.{Tick, Work, played, plain_path, create, update, restore, user, photo};
+ghost use Rattle.delf_model.specs.State.{start};
+ghost use Rattle.delf_model.specs.Step.{after};
+ghost use Rattle.delf_model.specs.Legal.{is_legal_from};
+ghost use Rattle.delf_model.specs.Payloads.{Journal, Vault, is_needed, last_carrier, payload_at, payloads_along, given_at};
+ghost use Rattle.delf_model.specs.Worked.{Tick, Work, played, example_rules, plain_path, create, update, restore, user, photo};
 ghost use Rattle.payload_laws.specs.Holders.{scrubbed_by, record_size};
+ghost use Rattle.payload_laws.specs.Emptied.{emptied_along, there_and_back, one_byte};
 
 /// The record that an update leaves behind is scrubbed, and its own record serves the new payload.
 pub fn update_scrubs()
@@ -28,4 +32,16 @@ pub fn put_back_serves()
     ensures scrubbed { scrubbed_by (played 0 (plain_path ++ restore (Named 40) ∷ Work 1 ∷ [])).state (Put 3 1) ≡ Vault 1 ∷ [] }
     ensures sized { record_size (played 0 (plain_path ++ restore (Named 40) ∷ Work 1 ∷ [])).state (Put 3 1) ≡ 1 }
     ensures after { last_carrier (played 0 (plain_path ++ restore (Named 40) ∷ Work 2 ∷ [])).state 0 ≡ Journal 9 }
+{}
+
+/// A byte that was given is there again after a deletion and a restore, and was sealed on the way. A fold in which a put empties it
+/// gives another payload than the call gave.
+pub fn a_put_keeps_the_bytes()
+    ensures legal { is_legal_from (start example_rules) there_and_back ≡ true }
+    ensures needed { is_needed (after example_rules there_and_back) 0 ≡ true }
+    ensures pairs { (payloads_along (λ bytes. bytes) one_byte example_rules there_and_back).bytes ≡ (0, 97 ∷ []) ∷ [] }
+    ensures kept { payload_at (payloads_along (λ bytes. bytes) one_byte example_rules there_and_back) 0 ≡ given_at one_byte 0 }
+    ensures sealed { (payloads_along (λ bytes. bytes) one_byte example_rules there_and_back).seals ≡ (97 ∷ []) ∷ [] }
+    ensures emptied { payload_at (emptied_along (λ bytes. bytes) one_byte example_rules there_and_back) 0 ≡ [] }
+    ensures refused { payload_at (emptied_along (λ bytes. bytes) one_byte example_rules there_and_back) 0 ≡ given_at one_byte 0 → ⊥ }
 {}

@@ -13,7 +13,7 @@ ghost use Rattle.delf_model.specs.Worked.{played, plain_path, two_jobs, create, 
 ghost use Rattle.reach_laws.specs.Laws.{OneMore, EachPart};
 
 /// An object leaves by the erasure of the job that owns it, and an edge by an unlink or by a cut of a job that owns an
-/// end of it.
+/// end of it. An edge is meant by its key and birth, so that no entry puts one over another.
 pub fn what_leaves_has_an_owner()
     ensures { (rules : RuleSet) (history : List Entry) → Legal rules history → LeavesByOwner rules history }
 {}
