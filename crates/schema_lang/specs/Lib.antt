@@ -5,3 +5,4 @@ pub mod Grammar
 pub mod Views
 pub mod Spelling
 pub mod Spelled
+pub mod Forms
