@@ -62,10 +62,11 @@ pub number_is : (text : List ℕ) (n : ℕ) → IsNumber text n → (is_number t
 number_is text n (Zero is value) = (ap is_number is, ap number_value is ∙ sym value)
 number_is text n (Decimal first more is low high digits) =
     let rest = digits_are more (first - 48) n digits in
-    let all : list_all is_ascii_digit (first ∷ more) ≡ true = rw (digit_true first (omega arith) high, rest.0) refl in
-    (ap is_number is ∙ number_parts (eqb (length (first ∷ more)) 0) (list_all is_ascii_digit (first ∷ more)) (eqb first 48) (eqb (length (first ∷ more)) 1)
-    (some_length first more) all (false_from_ne_true _ (λ same. absurd (omega (arith, eqb-true first 48 same)))),
-    ap number_value is ∙ first_value first more ∙ rest.1)
+    let all : list_all is_ascii_digit (first ∷ more) ≡ true = rw (digit_true first (omega arith) high, rest.0) refl in (
+      ap is_number is ∙ number_parts (eqb (length (first ∷ more)) 0) (list_all is_ascii_digit (first ∷ more)) (eqb first 48) (eqb (length (first ∷ more)) 1)
+          (some_length first more) all (false_from_ne_true _ (λ same. absurd (omega (arith, eqb-true first 48 same)))),
+      ap number_value is ∙ first_value first more ∙ rest.1,
+    )
 
 leading : (b c : Bool) → (not b || c) ≡ true → b ≡ true → c ≡ true
 leading true c is one = is
@@ -297,10 +298,10 @@ is_edge number keyword name source target text (Some rule) edge ruled =
       text = text;
       rule = rule;
       are =
-        ap (λ (w : Word). w ∷ name ∷ source ∷ target ∷ Plain text ∷ []) (plain_word keyword (codes "edge") (omega arith) edge)
-        ∙ ap (λ (w : Word). Plain (codes "edge") ∷ w ∷ source ∷ target ∷ Plain text ∷ []) (named_word name parts.0)
-        ∙ ap (λ (w : Word). Plain (codes "edge") ∷ Plain (word_text name) ∷ w ∷ target ∷ Plain text ∷ []) (named_word source others.0)
-        ∙ ap (λ (w : Word). Plain (codes "edge") ∷ Plain (word_text name) ∷ Plain (word_text source) ∷ w ∷ Plain text ∷ []) (named_word target others.1);
+          ap (λ (w : Word). w ∷ name ∷ source ∷ target ∷ Plain text ∷ []) (plain_word keyword (codes "edge") (omega arith) edge)
+          ∙ ap (λ (w : Word). Plain (codes "edge") ∷ w ∷ source ∷ target ∷ Plain text ∷ []) (named_word name parts.0)
+          ∙ ap (λ (w : Word). Plain (codes "edge") ∷ Plain (word_text name) ∷ w ∷ target ∷ Plain text ∷ []) (named_word source others.0)
+          ∙ ap (λ (w : Word). Plain (codes "edge") ∷ Plain (word_text name) ∷ Plain (word_text source) ∷ w ∷ Plain text ∷ []) (named_word target others.1);
       named = is_name_of (word_text name) parts.0;
       source_named = is_name_of (word_text source) others.0;
       target_named = is_name_of (word_text target) others.1;

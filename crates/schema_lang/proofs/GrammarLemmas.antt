@@ -146,11 +146,15 @@ read_by : (line : List ℕ) (skipped : Bool) (found : Option (List Word)) → is
 unfolding line_of
 read_by line true found skipped is = rw skipped (skipped_is line skipped)
 read_by line false None skipped is =
-    rw (skipped, is) ((λ heard. let s : is_skipped line ≡ true = is_skipped_of line heard in let wrong : true ≡ false = sym s ∙ skipped in cc),
-    inr ((λ found spelled. let read : words line ≡ Some found = words_spelled line found spelled in cc), refl))
+    rw (skipped, is) (
+      (λ heard. let s : is_skipped line ≡ true = is_skipped_of line heard in let wrong : true ≡ false = sym s ∙ skipped in cc),
+      inr ((λ found spelled. let read : words line ≡ Some found = words_spelled line found spelled in cc), refl),
+    )
 read_by line false (Some found) skipped is =
-    rw (skipped, is) ((λ heard. let s : is_skipped line ≡ true = is_skipped_of line heard in let wrong : true ≡ false = sym s ∙ skipped in cc),
-    inl (found, subst (OfSome (SpellsWords line)) is (words_spell line), refl))
+    rw (skipped, is) (
+      (λ heard. let s : is_skipped line ≡ true = is_skipped_of line heard in let wrong : true ≡ false = sym s ∙ skipped in cc),
+      inl (found, subst (OfSome (SpellsWords line)) is (words_spell line), refl),
+    )
 
 read_as : (line : List ℕ) → ReadAs line (said_by (line_of line))
 read_as line = read_by line (is_skipped line) (words line) refl refl

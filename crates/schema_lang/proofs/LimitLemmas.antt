@@ -202,37 +202,43 @@ all_last P (y ∷ xs) x all = all_last P xs x all.1
 module _ (before : Schema) (fits : IsSpellable before) (m : Option Row) where
   object_step : (object : ObjectType) (room : Bool) → ltb (length before.objects) 64 ≡ room → m ≡ Some (Object object) → FitsObject object
       → Limited IsWithin (option_map (after before) m) (as_rows (cond room (Ok (record { window = before.window; objects = before.objects ++ object ∷ []; edges = before.edges })) (Err OutOfRange)))
-  object_step object true room is one =
-      (ap (option_map (after before)) is,
-      record {
-        window = fits.window;
-        objects = omega (arith, length-append before.objects (object ∷ []), ltb-true (length before.objects) 64 room);
-        edges = fits.edges;
-        each_object = all_push FitsObject before.objects object fits.each_object one;
-        each_edge = fits.each_edge;
-      })
-  object_step object false room is one =
-      (after before (Object object), ap (option_map (after before)) is,
-      λ all. let few : length (before.objects ++ object ∷ []) ≤ 64 = all.objects in
-      let longer : length (before.objects ++ object ∷ []) ≡ length before.objects + 1 = length-append before.objects (object ∷ []) in
-      let well : ltb (length before.objects) 64 ≡ true = lt-ltb (length before.objects) 64 (omega arith) in cc)
+  object_step object true room is one = (
+    ap (option_map (after before)) is,
+    record {
+      window = fits.window;
+      objects = omega (arith, length-append before.objects (object ∷ []), ltb-true (length before.objects) 64 room);
+      edges = fits.edges;
+      each_object = all_push FitsObject before.objects object fits.each_object one;
+      each_edge = fits.each_edge;
+    },
+  )
+  object_step object false room is one = (
+    after before (Object object),
+    ap (option_map (after before)) is,
+    λ all. let few : length (before.objects ++ object ∷ []) ≤ 64 = all.objects in
+        let longer : length (before.objects ++ object ∷ []) ≡ length before.objects + 1 = length-append before.objects (object ∷ []) in
+        let well : ltb (length before.objects) 64 ≡ true = lt-ltb (length before.objects) 64 (omega arith) in cc,
+  )
 
   edge_step : (edge : EdgeType) (room : Bool) → ltb (length before.edges) 256 ≡ room → m ≡ Some (Edge edge) → FitsEdge edge
       → Limited IsWithin (option_map (after before) m) (as_rows (cond room (Ok (record { window = before.window; objects = before.objects; edges = before.edges ++ edge ∷ [] })) (Err OutOfRange)))
-  edge_step edge true room is one =
-      (ap (option_map (after before)) is,
-      record {
-        window = fits.window;
-        objects = fits.objects;
-        edges = omega (arith, length-append before.edges (edge ∷ []), ltb-true (length before.edges) 256 room);
-        each_object = fits.each_object;
-        each_edge = all_push FitsEdge before.edges edge fits.each_edge one;
-      })
-  edge_step edge false room is one =
-      (after before (Edge edge), ap (option_map (after before)) is,
-      λ all. let few : length (before.edges ++ edge ∷ []) ≤ 256 = all.edges in
-      let longer : length (before.edges ++ edge ∷ []) ≡ length before.edges + 1 = length-append before.edges (edge ∷ []) in
-      let well : ltb (length before.edges) 256 ≡ true = lt-ltb (length before.edges) 256 (omega arith) in cc)
+  edge_step edge true room is one = (
+    ap (option_map (after before)) is,
+    record {
+      window = fits.window;
+      objects = fits.objects;
+      edges = omega (arith, length-append before.edges (edge ∷ []), ltb-true (length before.edges) 256 room);
+      each_object = fits.each_object;
+      each_edge = all_push FitsEdge before.edges edge fits.each_edge one;
+    },
+  )
+  edge_step edge false room is one = (
+    after before (Edge edge),
+    ap (option_map (after before)) is,
+    λ all. let few : length (before.edges ++ edge ∷ []) ≤ 256 = all.edges in
+        let longer : length (before.edges ++ edge ∷ []) ≡ length before.edges + 1 = length-append before.edges (edge ∷ []) in
+        let well : ltb (length before.edges) 256 ≡ true = lt-ltb (length before.edges) 256 (omega arith) in cc,
+  )
 
   passes : (row : Row) → (FitsRow row → ⊥) → IsWithin (after before row) → ⊥
   passes Script ill all = ill tt

@@ -61,12 +61,21 @@ payload_begins rest found is =
     ([], 34 ∷ (is.0 ++ 34 ∷ []), is.1, ap (λ (l : List ℕ). 34 ∷ l) (is.5 ∙ sym (append_assoc is.0 (34 ∷ []) is.1)), tt, (is.0, refl, is.6), is.7, is.8)
 
 payload_grows : (front rest bytes : List ℕ) (byte : ℕ) (found : List Word) → SpellsByte front byte → PayloadGoesOn (bytes ++ byte ∷ []) rest found → PayloadGoesOn bytes (front ++ rest) found
-payload_grows front rest bytes byte found spells is =
-    (front ++ is.0, is.1, byte ∷ is.2, is.3, is.4 ∙ ap (λ (b : List ℕ). Payload b ∷ is.3) (append_assoc bytes (byte ∷ []) is.2),
-    ap (λ (l : List ℕ). front ++ l) is.5 ∙ sym (append_assoc front is.0 (34 ∷ is.1)), (front, is.0, refl, spells, is.6), is.7, is.8)
+payload_grows front rest bytes byte found spells is = (
+  front ++ is.0,
+  is.1,
+  byte ∷ is.2,
+  is.3,
+  is.4 ∙ ap (λ (b : List ℕ). Payload b ∷ is.3) (append_assoc bytes (byte ∷ []) is.2),
+  ap (λ (l : List ℕ). front ++ l) is.5 ∙ sym (append_assoc front is.0 (34 ∷ is.1)),
+  (front, is.0, refl, spells, is.6),
+  is.7,
+  is.8,
+)
 
 mutual
   unfolding words
+
   pub words_spell : (line : List ℕ) → OfSome (SpellsWords line) (words line)
   words_spell [] = tt
   words_spell (byte ∷ rest) =

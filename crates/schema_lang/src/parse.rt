@@ -1,3 +1,5 @@
+//! The schema part of a document, line by line.
+
 ghost use Rattle.std.specs.Prelude.{◌≡◌, ◌<◌, IfOk, IfErr, Ok, Err, length, map};
 ghost use Rattle.std.specs.Str.Lines.{lines};
 ghost use Rattle.schema_lang.specs.Grammar.{Part, Fault, Gives, first_said, owed, at_line, with_object, with_edge, empty_schema, step_of, rows, part_of, line_after, schema_of};
