@@ -7,3 +7,8 @@ pub mod PrintLemmas
 pub mod RoundTrip
 pub mod Spellable
 pub mod SpelledLemmas
+pub mod ReadWords
+pub mod FormLemmas
+pub mod LimitLemmas
+pub mod GrammarLemmas
+pub mod AnswerLemmas

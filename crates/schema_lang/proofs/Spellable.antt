@@ -60,7 +60,7 @@ name_by true true false text none = cc
 name_by true false short text none = cc
 name_by false named short text none = cc
 
-name_fits : (text : List ℕ) → why_of (name_in text) ≡ None → IsName text
+pub name_fits : (text : List ℕ) → why_of (name_in text) ≡ None → IsName text
 name_fits text none =
     let parts = name_by (not (eqb (length text) 0)) (list_all is_name_code text) (leb (length text) 32) text none in
     rw (le-leb 1 (length text) (omega (arith, eqb-false (length text) 0 (not-true _ parts.0))), parts.2, parts.1) refl
@@ -115,7 +115,7 @@ window_fits (a ∷ []) = tt
 window_fits (a ∷ b ∷ []) = of_cond (λ n. n ≤ 31536000) (bytes_eq a (codes "window")) (number_in 0 31536000 b) (Err Malformed) (λ _. below (number_in 0 31536000 b) (number_fits 0 31536000 b)) tt
 window_fits (a ∷ b ∷ c ∷ more) = tt
 
-all_push : {A : Type 0} (P : A → Type 0) (xs : List A) (x : A) → AllByRecursion P xs → P x → AllByRecursion P (xs ++ x ∷ [])
+pub all_push : {A : Type 0} (P : A → Type 0) (xs : List A) (x : A) → AllByRecursion P xs → P x → AllByRecursion P (xs ++ x ∷ [])
 all_push P [] x all one = (one, tt)
 all_push P (y ∷ xs) x all one = (all.0, all_push P xs x all.1 one)
 
@@ -182,7 +182,7 @@ behind : {A : Type 0} (r : Result A Fault) (f : A → Result Part Fault) → ((x
 behind (Ok x) f each = each x
 behind (Err fault) f each = tt
 
-empty_fits : (window : ℕ) → window ≤ 31536000 → IsSpellable (empty_schema window)
+pub empty_fits : (window : ℕ) → window ≤ 31536000 → IsSpellable (empty_schema window)
 empty_fits window fits = record { window = fits; objects = omega arith; edges = omega arith; each_object = tt; each_edge = tt }
 
 behind_window : (line : ℕ) (window : Result ℕ Why) (f : ℕ → Result Part Fault) → OfOk (λ n. n ≤ 31536000) window → ((n : ℕ) → n ≤ 31536000 → OfOk FitsPart (f n)) → OfOk FitsPart (at_line line window >>= f)

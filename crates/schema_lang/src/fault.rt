@@ -1,3 +1,5 @@
+//! Why a schema was not read.
+
 use crate::why::Why;
 use std::alloc::AllocError;
 

@@ -14,7 +14,7 @@ mod tests;
 mod why;
 
 pub use fault::SchemaFault;
-pub use laws::spelled_words_are_read;
+pub use laws::{line_forms_are_read, read_words_are_spelled, spelled_words_are_read};
 pub use line::{Line, Word, read_line, split_line};
 pub use number::{name_fault, read_number};
 pub use parse::{SchemaPart, parse_part, parse_schema};

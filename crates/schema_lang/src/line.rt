@@ -1,3 +1,5 @@
+//! The words of a document's lines.
+
 ghost use Rattle.std.specs.Prelude.{◌≡◌, ◌≢◌, slice_index, ◌∷◌, [], ◌<◌, ◌≤◌, MatchOption, IfOk, IfSome, None, length};
 ghost use Rattle.std.specs.Str.Lines.{lines, strip_carriage_return};
 ghost use Rattle.std.specs.List.{position_or_len};

@@ -1,3 +1,5 @@
+//! Numbers and names.
+
 ghost use Rattle.std.specs.Prelude.{◌≡◌, ◌<◌, ◌^◌, SomeIff, IfSome, IfNone, IsOk, IsErrOf, Err, Ok};
 ghost use Rattle.std.specs.List.{list_all};
 ghost use Rattle.std.specs.Char.{is_ascii_digit};

@@ -1,8 +1,12 @@
-ghost use Rattle.std.specs.Prelude.{◌≡◌, ◌<◌, IfOk, length, map};
+//! The schema part of a document, line by line.
+
+ghost use Rattle.std.specs.Prelude.{◌≡◌, ◌<◌, IfOk, IfErr, Ok, Err, length, map};
 ghost use Rattle.std.specs.Str.Lines.{lines};
-ghost use Rattle.schema_lang.specs.Grammar.{Gives, first_said, owed, at_line, with_object, with_edge, empty_schema, step_of, rows, part_of, line_after, schema_of};
+ghost use Rattle.schema_lang.specs.Grammar.{Part, Fault, Gives, first_said, owed, at_line, with_object, with_edge, empty_schema, step_of, rows, part_of, line_after, schema_of};
+ghost use Rattle.schema_lang.specs.Forms.{SpellsPart, HasPartFault, SpellsSchema, IsTold};
 ghost use Rattle.schema_lang.specs.Rows.{word_text};
 ghost use Rattle.schema_lang.specs.Spelling.{IsSpellable};
+ghost use Rattle.delf_model.specs.declared.schema.Schema.{Schema};
 ghost use Rattle.schema_lang.specs.Views.{part_view, said_view, next_view, IsShorter};
 
 use crate::fault::SchemaFault;
@@ -191,6 +195,10 @@ fn read_rows(
 /// The schema part of a document, up to the line `script` or the document's end, and where the part behind it
 /// begins.
 pub fn parse_part(alloc: Global, bytes: &[u8]) -> Result<SchemaPart<'_>, SchemaFault>
+    ensures spelled { IfOk result (λ part. SpellsPart bytes.now (part_view part)) }
+    ensures told { IfErr result (IsTold (HasPartFault bytes.now)) }
+    ensures every_spelled { (part : Part) → SpellsPart bytes.now part → Gives part_view result (Ok part) }
+    ensures every_fault { (fault : Fault) → HasPartFault bytes.now fault → Gives part_view result (Err fault) }
     ensures part { Gives part_view result (part_of (lines bytes.now)) }
     ensures spellable { IfOk result (λ part. IsSpellable part.schema) }
 {
@@ -220,6 +228,10 @@ fn read_part(alloc: Global, bytes: &[u8]) -> Result<SchemaPart<'_>, SchemaFault>
 
 /// The schema of a document, whose part for commands is not looked at; or the first fault of its schema part.
 pub fn parse_schema(alloc: Global, bytes: &[u8]) -> Result<Schema, SchemaFault>
+    ensures spelled { IfOk result (SpellsSchema bytes.now) }
+    ensures told { IfErr result (IsTold (HasPartFault bytes.now)) }
+    ensures every_spelled { (schema : Schema) → SpellsSchema bytes.now schema → Gives (λ schema. schema) result (Ok schema) }
+    ensures every_fault { (fault : Fault) → HasPartFault bytes.now fault → Gives (λ schema. schema) result (Err fault) }
     ensures schema { Gives (λ schema. schema) result (schema_of bytes.now) }
     ensures spellable { IfOk result (λ schema. IsSpellable schema) }
 {

@@ -1,3 +1,5 @@
+//! The bytes that a word in double quotes spells.
+
 ghost use Rattle.std.specs.Prelude.{◌≡◌, ◌<◌, option_map, MatchOption, IfOk, IfSome, None, [], length};
 ghost use Rattle.schema_lang.specs.Words.{hex_digit, hex_byte, escaped_byte, payload_byte, stands_for_itself, words, within_payload, with_word, after_quote};
 

@@ -1,3 +1,5 @@
+//! The rows of a schema, each from the words of its line.
+
 ghost use Rattle.std.specs.Prelude.{◌≡◌, IfOk, IfNone, IfSome, None, Some, Ok, Err, map, ◌∷◌, []};
 ghost use Rattle.delf_model.specs.Names.{IsName};
 ghost use Rattle.schema_lang.specs.Numbers.{name_in, number_in};

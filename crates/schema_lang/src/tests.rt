@@ -1,3 +1,5 @@
+//! Documents and what is read of them.
+
 use crate::{
     Line, SchemaFault, Why, Word, name_fault, parse_part, parse_schema, print_schema, read_line,
     read_number, split_line,

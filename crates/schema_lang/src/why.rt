@@ -1,3 +1,5 @@
+//! What is wrong with a line.
+
 /// What is wrong with a line.
 #[derive(Clone, Copy, PartialEq, Eq, Debug)]
 pub enum Why {

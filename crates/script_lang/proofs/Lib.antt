@@ -2,3 +2,8 @@ pub mod TypeNumberLemmas
 pub mod ScriptLemmas
 pub mod GeneratedLemmas
 pub mod FormLemmas
+pub mod JudgeLemmas
+pub mod CallLemmas
+pub mod CallFormLemmas
+pub mod LineFormLemmas
+pub mod LineAnswerLemmas

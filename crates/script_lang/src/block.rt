@@ -1,3 +1,5 @@
+//! The lines within a block.
+
 ghost use Rattle.std.specs.Prelude.{◌≡◌, IfOk};
 ghost use Rattle.delf_model.specs.declared.schema.Schema.{Schema};
 ghost use Rattle.schema_lang.specs.Spelling.{IsSpellable};

@@ -1,3 +1,5 @@
+//! The lines of the writing calls.
+
 ghost use Rattle.std.specs.Prelude.{◌≡◌, IfOk, IfSome, Option, Some, None};
 ghost use Rattle.delf_model.specs.declared.schema.Schema.{Schema};
 ghost use Rattle.schema_lang.specs.Spelling.{IsSpellable};

@@ -1,3 +1,5 @@
+//! A document: its schema and its script.
+
 ghost use Rattle.std.specs.Prelude.{◌≡◌, IfOk, codes};
 ghost use Rattle.std.specs.List.{All};
 ghost use Rattle.schema_lang.specs.Spelling.{IsSpellable};

@@ -1,3 +1,5 @@
+//! Why a document, or a line of it, was not read.
+
 use delf_model::Bytes;
 use std::alloc::AllocError;
 

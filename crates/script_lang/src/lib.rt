@@ -17,5 +17,5 @@ mod tests;
 pub use document::{DOCUMENT_LIMIT, parse_document, told_fault, too_long};
 pub use fault::DocumentFault;
 pub use groups::generated;
-pub use laws::spelled_script_is_read;
+pub use laws::{line_forms_are_read, spelled_script_is_read};
 pub use script::parse_script;

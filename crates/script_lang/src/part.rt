@@ -1,3 +1,5 @@
+//! What a word means at its place in a line.
+
 ghost use Rattle.std.specs.Prelude.{◌≡◌, ◌<◌, IfOk, length};
 ghost use Rattle.std.specs.Str.{bytes_eq};
 ghost use Rattle.delf_model.specs.Checked.{number_of};

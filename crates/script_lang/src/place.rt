@@ -1,3 +1,5 @@
+//! Where a line stands in a script, and what it adds.
+
 ghost use Rattle.std.specs.Prelude.{◌≡◌, IfOk};
 ghost use Rattle.std.specs.List.{All};
 ghost use Rattle.schema_lang.specs.Spelling.{IsSpellable};

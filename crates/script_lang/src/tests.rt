@@ -1,3 +1,5 @@
+//! Documents and what is read of them.
+
 use crate::{DocumentFault, generated, parse_document, parse_script};
 use delf_model::Command;
 use std::alloc::Global;
