@@ -169,8 +169,17 @@ impl<V: Counted> SeatLock<V> {
         let empty = shared.exchange(place, VALUE, Some(value));
         let None = empty else { unreachable!() };
         shared.fetch_add::<Raise>(place, HISTORY, more as u64);
-        shared.fetch_add::<Pass>(place, SERVED_TICKET, 1);
-        shared.wake_all(SERVED_TICKET);
+        let served = shared.fetch_add::<Pass>(place, SERVED_TICKET, 1);
+        self.wake_behind(served);
+    }
+
+    // Wakes all that park where a ticket behind this one, which was passed, is drawn; else it makes no system call. One
+    // who draws after the look finds the turn passed before it would park.
+    fn wake_behind(&self, served: u64) {
+        let shared = &self.table.shared;
+        if shared.peek(NEXT_TICKET) != served.wrapping_add(1) {
+            shared.wake_all(SERVED_TICKET);
+        }
     }
 
     /// Waits for the turn, lends the value to `f`, and passes the turn. It sleeps while it waits.

@@ -18,8 +18,8 @@ fetch_add-requires g c =
           (handed t.state t.entries t.maker t.follows old seat.me c.args.value turn.2 c.exchange-empty.ensures.3) turn.0 turn.1.1 c.requires.later c.requires.only c.requires.count fits,
     )
 
-pub fetch_add-requires-2 : goal.fetch_add-requires-2
-fetch_add-requires-2 g c =
+pub fetch_add-served-requires : goal.fetch_add-served-requires
+fetch_add-served-requires g c =
     let t = g.V.Counted in
     let table = c.args.self.now.table.shared in
     let words = c.args.self.now.sized.0 in
