@@ -5,7 +5,7 @@ use Rattle.delf_model.specs.declared.entry.What.TheVariants.{Create, Link, Delet
 use Rattle.delf_model.specs.Graph.{Graph}
 use Rattle.delf_model.specs.State.{State, start}
 use Rattle.delf_model.specs.Step.{after}
-use Rattle.delf_model.specs.Worked.{example_rules, user, photo, owning, object, edge}
+use Rattle.delf_model.specs.Worked.{example_rules, user, photo, album, owning, liking, holding, object, edge}
 use Rattle.history_laws.specs.Parts.{tag, at_zero, deleted}
 
 -- a user owns a user, where the edge type points at photos
@@ -47,3 +47,21 @@ with_another =
 -- a state of so many entries with nothing else in it
 abbrev pub long_state : ℕ → State
 long_state len = record (start example_rules) { len = len }
+
+-- an album holds a photo that a user likes; then the album is deleted
+abbrev pub held_photo : List Entry
+held_photo =
+    at_zero (Create (tag 0) album 5 0) ∷ at_zero (Create (tag 1) photo 3 0) ∷ at_zero (Create (tag 2) user 9 0) ∷
+    at_zero (Link (tag 3) holding 5 3 0) ∷ at_zero (Link (tag 4) liking 9 3 0) ∷ at_zero (Delete (tag 5) 5 40) ∷ []
+
+-- the job's steps: the last reference, the edge of the user who is not deleted, the photo and the album
+abbrev pub photo_taken : List Entry
+photo_taken = at_zero (Cut 5 holding 5 3) ∷ at_zero (Cut 5 liking 9 3) ∷ at_zero (Erase 5 3) ∷ at_zero (Erase 5 5) ∷ []
+
+-- the album alone is erased
+abbrev pub photo_left : List Entry
+photo_left = held_photo ++ at_zero (Cut 5 holding 5 3) ∷ at_zero (Erase 5 5) ∷ []
+
+-- wrong: the user is erased too
+abbrev pub stranger_taken : List Entry
+stranger_taken = held_photo ++ photo_taken ++ at_zero (Erase 5 9) ∷ []

@@ -2,20 +2,21 @@
 //! computes it or proves it in a few lines.
 #![tactic(auto)]
 
-ghost use Rattle.std.specs.Prelude.{◌≡◌, [], ◌∷◌, Some, None, true, false};
+ghost use Rattle.std.specs.Prelude.{◌≡◌, [], ◌∷◌, ◌++◌, Some, None, true, false};
 ghost use Rattle.delf_model.specs.declared.call.Refusal.TheVariants.{Full, WrongEnd};
 ghost use Rattle.delf_model.specs.declared.entry.What.TheVariants.{Create, Link, Erase, Cut, Put};
 ghost use Rattle.delf_model.specs.Graph.{IsGraph};
 ghost use Rattle.delf_model.specs.State.{start};
 ghost use Rattle.delf_model.specs.Step.{after};
+ghost use Rattle.delf_model.specs.Closure.{Calm};
 ghost use Rattle.delf_model.specs.Legal.{is_legal_from, is_legal};
 ghost use Rattle.delf_model.specs.Reply.{refused};
 ghost use Rattle.delf_model.specs.Order.{first_step, is_legal_step};
-ghost use Rattle.delf_model.specs.Sound.{EdgesLeave, DoneErasesReached, FirstIsLegal};
+ghost use Rattle.delf_model.specs.Sound.{TookClosure, EdgesLeave, DoneErasesReached, FirstIsLegal};
 ghost use Rattle.delf_model.specs.Worked.{example_rules, user, photo, owning, object, edge};
 ghost use Rattle.birth_laws.specs.Made.{ObjectMade};
 ghost use Rattle.history_laws.specs.Parts.{tag, at_zero, deleted};
-ghost use Rattle.law_examples.specs.Cases.{wrong_target, keys_fall, key_twice, edge_lost, rootless, end_first, with_another, long_state};
+ghost use Rattle.law_examples.specs.Cases.{wrong_target, keys_fall, key_twice, edge_lost, rootless, end_first, with_another, long_state, held_photo, photo_taken, photo_left, stranger_taken};
 
 /// A graph in which a user owns a user is none of rules by which users own photos, and the link that would make it is
 /// refused with the type that its target has.
@@ -73,4 +74,16 @@ pub fn room_is_not_exceeded()
     ensures fits { is_legal (long_state 499996) (at_zero (Create (tag 0) user 1 0)) ≡ true }
     ensures full { refused (long_state 499997) 0 (Create (tag 0) user 1 0) ≡ Some (Full 499997 0) }
     ensures illegal { is_legal (long_state 499997) (at_zero (Create (tag 0) user 1 0)) ≡ false }
+{}
+
+/// A calm part with a reference and with an edge of a user who is not deleted: the job takes the album and the photo that
+/// it alone holds, and the user stays. One that leaves the photo, or takes the user, did not take the closure.
+#[tactic(auto, using(crate::proofs::Reference::calm, crate::proofs::Reference::exact, crate::proofs::Reference::left, crate::proofs::Reference::more))]
+pub fn a_reference_is_counted()
+    ensures legal { is_legal_from (start example_rules) (held_photo ++ photo_taken) ≡ true }
+    ensures calm { Calm example_rules (held_photo ++ photo_taken) 5 5 10 (5 ∷ 3 ∷ 9 ∷ []) }
+    ensures exact { TookClosure example_rules (after example_rules held_photo).graph 5 5 (after example_rules (held_photo ++ photo_taken)) }
+    ensures objects { (after example_rules (held_photo ++ photo_taken)).graph.objects ≡ object 9 user 2 0 ∷ [] }
+    ensures left { TookClosure example_rules (after example_rules held_photo).graph 5 5 (after example_rules photo_left) → ⊥ }
+    ensures more { TookClosure example_rules (after example_rules held_photo).graph 5 5 (after example_rules stranger_taken) → ⊥ }
 {}
