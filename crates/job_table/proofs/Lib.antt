@@ -29,6 +29,7 @@ pub mod Tallying
 pub mod WaitingJobs
 pub mod Purges
 pub mod Restores
+pub mod Fresh
 pub mod Oldest
 pub mod SpansOf
 pub mod SpanWalks

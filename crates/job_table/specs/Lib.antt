@@ -2,6 +2,7 @@ pub mod Allowed
 pub mod Apart
 pub mod Fits
 pub mod Free
+pub mod Fresh
 pub mod Items
 pub mod JobsFit
 pub mod Next

@@ -271,6 +271,7 @@ impl JobTable {
     fn note_erase(&mut self, moment: Moment, job: Job, row: &ObjectRow, id: ObjectId)
         requires spare { 0 < self.old.spare }
         requires owed { 1 ≤ self.old.owed }
+        requires owner { owner_among self.old.owners id ≡ Some job }
         ensures same { self.new ≡ record (noted_item self.old moment job (Item.Object job row.now) (self.old.owed - 1)) { owners = self.new.owners } }
         ensures owners { (other : ℕ) → owner_among self.new.owners other ≡ cond (nat_eq other id) None (owner_among self.old.owners other) }
         ensures owned { (other : ℕ) → owned_among self.new.owners other + cond (is_job other (owner_among self.old.owners id)) 1 0 ≡ owned_among self.old.owners other }

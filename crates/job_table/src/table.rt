@@ -46,13 +46,14 @@ pub struct JobTable {
 impl Model for JobTable {
     ghost use Rattle.job_table.specs.Table.{Table};
     ghost use Rattle.job_table.specs.Fits.{Fits};
+    ghost use Rattle.job_table.specs.Fresh.{FreshOwn};
     ghost use Rattle.job_table.specs.Restoring.{AreRestoring};
 
     ghost Value = { Table };
 
     ghost view = { λ t. record { len = t.len; moment = t.moment; owed = t.owed; owners = t.owners.list; items = t.items.list; jobs = t.jobs.list; seats = t.seats.list; held = t.claims.list; spare = t.spare } };
 
-    ghost invariant = { λ t. Fits t.len t.owed t.spare t.owners t.items t.jobs t.seats t.claims t.restoring × AreRestoring t.jobs.list t.items.list t.restoring.list };
+    ghost invariant = { λ t. Fits t.len t.owed t.spare t.owners t.items t.jobs t.seats t.claims t.restoring × AreRestoring t.jobs.list t.items.list t.restoring.list × FreshOwn t.jobs.list t.owners.list };
 }
 
 impl JobTable {
