@@ -34,6 +34,17 @@ one_more p xs i x f e n k y g l = go (nat_lt i k) refl
         let here : Some y ≡ Some x = sym g ∙ ap (slice_get xs) same ∙ e in
         let is : y ≡ x = cc here in ap p is ∙ n
 
+pub one_more_below : (p : Logged → Bool) (xs : List Logged) (i high : ℕ) (x : Logged) → ((k : ℕ) (y : Logged) → slice_get xs k ≡ Some y → i + 1 ≤ k → k < high → p y ≡ false) → slice_get xs i ≡ Some x → p x ≡ false →
+    (k : ℕ) (y : Logged) → slice_get xs k ≡ Some y → i ≤ k → k < high → p y ≡ false
+one_more_below p xs i high x f e n k y g l m = go (nat_lt i k) refl
+  where
+    go : (b : Bool) → nat_lt i k ≡ b → p y ≡ false
+    go true h = f k y g (grind (arith, nat_tests, h)) m
+    go false h =
+        let same : k ≡ i = grind (arith, nat_tests, h, l) in
+        let here : Some y ≡ Some x = sym g ∙ ap (slice_get xs) same ∙ e in
+        let is : y ≡ x = cc here in ap p is ∙ n
+
 all_fail : (p : Logged → Bool) (xs : List Logged) (n i : ℕ) → FailsFrom p xs n → FailsBefore p xs i → n ≤ i → (k : ℕ) (x : Logged) → slice_get xs k ≡ Some x → p x ≡ false
 all_fail p xs n i from before l k x e = go (nat_lt k i) refl
   where

@@ -1,3 +1,4 @@
+-- From which moment jobs wait for their window, and what holds of the queue of them.
 use Rattle.std.specs.Prelude.{◌≡◌, ℕ, ◌+◌, ◌<◌, ◌≤◌, Bool, true, cond, ◌&&◌, not, nat_lt, List, Option, Some, None, find, is_some, length, slice_index_or, option_and_then, IsTrue}
 use Rattle.delf_model.specs.State.{JobRow}
 use Rattle.delf_model.specs.State.{last_erasure_or_zero}

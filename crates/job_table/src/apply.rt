@@ -1,3 +1,4 @@
+//! How each kind of entry changes the table.
 ghost use Rattle.std.specs.Prelude.{◌≡◌, ◌+◌, ◌-◌, ◌<◌, ◌≤◌, ◌++◌, ◌∷◌, [], true, false, cond, nat_eq, None, ℕ, ◌^◌, length, sum_by, Some, IsTrue, is_none, ◌&&◌};
 ghost use Rattle.delf_model.specs.declared.entry.What.{What};
 ghost use Rattle.delf_model.specs.declared.entry.Entry.{Entry};

@@ -1,3 +1,4 @@
+//! The jobs by age, by name, and by the moment from which their window runs.
 ghost use Rattle.std.specs.Prelude.{◌≡◌, ◌+◌, ◌<◌, ◌≤◌, ◌^◌, ◌++◌, ◌∷◌, [], OnOk, length, slice_get, slice_index_or, option_map, map, cond, nat_eq, nat_lt, false, true, Some, ℕ, IsTrue};
 ghost use Rattle.std.specs.List.{position, list_any};
 ghost use Rattle.job_table.specs.Waits.{has_waited as has_waited_row};

@@ -1,3 +1,4 @@
+//! The step that comes next, with held steps passed over.
 ghost use Rattle.std.specs.Prelude.{◌≡◌, ℕ, true, Some, [], None, IsTrue};
 ghost use Rattle.delf_model.specs.State.{State};
 ghost use Rattle.delf_model.specs.Order.{is_step};

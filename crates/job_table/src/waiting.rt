@@ -1,3 +1,4 @@
+//! The jobs that wait for their window, as they erase and are purged.
 ghost use Rattle.std.specs.Prelude.{◌≡◌, ◌+◌, ◌≤◌, None, cond, nat_eq, length, ℕ, IsTrue};
 ghost use Rattle.std.specs.VecDeque.{deque_capacity};
 ghost use Rattle.job_table.specs.Apart.{are_apart};
