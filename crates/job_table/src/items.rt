@@ -1,5 +1,5 @@
 //! The items of the history by number, with what is kept of each job of them.
-ghost use Rattle.std.specs.Prelude.{◌≡◌, ◌+◌, ◌<◌, ◌≤◌, ◌^◌, ◌++◌, ◌∷◌, [], OnOk, drop, length, slice_get, option_map, count_by, sum_by, cond, is_some, nat_eq, ◌-◌, ◌&&◌, Some, unwrap_or, false, true, ℕ};
+ghost use Rattle.std.specs.Prelude.{◌≡◌, ◌+◌, ◌<◌, ◌≤◌, ◌^◌, ◌++◌, ◌∷◌, [], OnOk, drop, length, slice_get, option_map, count_by, sum_by, cond, is_some, nat_eq, ◌-◌, ◌&&◌, Some, unwrap_or, false, true, nat_lt, take, ℕ};
 ghost use Rattle.delf_model.specs.Order.{last_place};
 ghost use Rattle.job_table.specs.Parts.{logged_of, handled_of};
 ghost use Rattle.delf_model.specs.Step.{unhandled, handled_at};
@@ -309,6 +309,23 @@ impl Items {
         true
     }
 
+    /// The listed item of the job with the greatest number below this one. Looks only at the items between the two, so
+    /// that all of them, read one after the other, cost one pass over where items of the job stand.
+    pub fn listed_before(&self, job: Job, below: u32) -> Option<Listed>
+        ensures { result ≡ slice_get (listed_from job 0 (take below self.now.list)) 0 }
+    {
+        let span = self.span(job.0);
+        let mut i = lesser(below, span.end);
+        'items: while i > span.first {
+            i -= 1;
+            let found = listing(job, i, &self.items[i as usize]);
+            if found.is_some() {
+                return found;
+            }
+        }
+        None
+    }
+
     /// The listed item of the job at this place, by falling item number.
     pub fn listed_at(&self, job: Job, place: u32) -> Option<Listed>
         ensures { result ≡ slice_get (listed_from job 0 self.now.list) place }
@@ -326,6 +343,12 @@ impl Items {
         }
         None
     }
+}
+
+fn lesser(a: u32, b: u32) -> u32
+    ensures { result ≡ cond (nat_lt a b) a b }
+{
+    if a < b { a } else { b }
 }
 
 /// Notes the tally of the job that starts here.
