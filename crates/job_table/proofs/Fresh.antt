@@ -3,7 +3,7 @@ use Rattle.std.proofs.Common.{◌≡◌, ℕ, ◌+◌, ◌<◌, Bool, true, fals
 use Rattle.std.specs.Prelude.{find, nat_eq, is_none}
 use Rattle.std.proofs.lemmas.Bool.Decides.{nat_tests}
 use Rattle.delf_model.specs.declared.ids.JobName.{JobName}
-use Rattle.delf_model.specs.State.{JobRow, job_row, starts_at, is_job}
+use Rattle.delf_model.specs.State.{JobRow, starts_at, is_job}
 use Rattle.delf_model.specs.Step.{new_job, row_restored_at, purged_if, erased_at}
 use Rattle.job_table.specs.Fresh.{is_fresh_row, is_fresh, FreshOwn}
 use Rattle.job_table.specs.Owning.{Gains}

@@ -151,9 +151,6 @@ none_started rows list start e r =
     none_left (Some x) h = absurd (cc h)
 
 module _ (rows : List Row) (pairs : List (ℕ × ℕ)) (capacity front spare : ℕ) (fit : WaitsFit rows pairs capacity front spare) where
-  pub free_to_wait : (list : List JobRow) (start : ℕ) → map row_of rows ≡ list → starts_rise 0 start list ≡ true → owner_among pairs start ≡ None
-  free_to_wait list start e r = fit.waits start ∙ ap (option_and_then waits_of) (none_started rows list start e r)
-
   pub waits_at : (slice : List Row) (job i : ℕ) (old : Row) → slice ≡ rows → Some i ≡ position (is_start job) slice → old ≡ get_or rows i old → owner_among pairs old.start ≡ waits_of old
   waits_at slice job i old e p g =
       let facts = position-Some (is_start job) rows i old (sym (p ∙ ap (position (is_start job)) e)) in

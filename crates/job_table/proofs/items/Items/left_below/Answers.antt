@@ -1,4 +1,4 @@
-use Rattle.std.proofs.Common.{ℕ, ◌-◌, sym, ◌∙◌, arith}
+use Rattle.std.proofs.Common.{◌-◌, sym, ◌∙◌, arith}
 use Rattle.job_table.specs.Items.{is_unhandled_of}
 use Rattle.job_table.specs.Parts.{logged_of}
 use Rattle.job_table.proofs.Listing.{kept_len}

@@ -1,4 +1,4 @@
-use Rattle.std.proofs.Common.{List, refl, subst, ◌∙◌, sym, ap, arith, take, ℕ, ◌-◌, ◌≤◌, length}
+use Rattle.std.proofs.Common.{List, refl, subst, ◌∙◌, sym, ap, arith, take, ℕ, ◌-◌, length}
 use Rattle.std.specs.Prelude.{slice_get, nat_lt}
 use Rattle.delf_model.specs.declared.call.Listed.{Listed}
 use Rattle.delf_model.specs.Report.{listed_from}

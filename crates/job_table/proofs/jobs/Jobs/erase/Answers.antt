@@ -1,4 +1,4 @@
-use Rattle.std.proofs.Common.{◌≡◌, ◌∙◌, ◌<◌, ◌-◌, Bool, cond, set, Some, sym, refl, ap, arith}
+use Rattle.std.proofs.Common.{◌≡◌, ◌∙◌, ◌-◌, Bool, cond, set, Some, sym, refl, ap, arith}
 use Rattle.std.specs.Prelude.{nat_eq}
 use Rattle.job_table.specs.declared.jobs.Row.{Row}
 use Rattle.job_table.specs.Table.{owner_among}
