@@ -176,6 +176,9 @@ module _ (s : State) (e : Entry) (job id : ℕ) (t : Table) (stored : Graph) (re
   pub erase_stored : object_at stored id ≡ Some erase_found.row
   erase_stored = ap (λ (g : Graph). object_at g id) i.graph ∙ erase_found.row_is
 
+  pub erase_owner : owner_among t.owners id ≡ Some job
+  erase_owner = h.owners id ∙ erase_found.owns
+
   pub erase_enough : 1 ≤ t.owed
   erase_enough = omega (arith, h.owed, erase_owed s e.moment job id erase_order h.keeps erase_found)
 

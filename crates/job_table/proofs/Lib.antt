@@ -29,6 +29,8 @@ pub mod Tallying
 pub mod WaitingJobs
 pub mod Purges
 pub mod Restores
+pub mod Fresh
+pub mod OpenEnds
 pub mod Oldest
 pub mod SpansOf
 pub mod SpanWalks

@@ -63,6 +63,10 @@ found_later None rest left answer e s = e
 found_later (Some x) rest zero answer e s = absurd (cc s)
 found_later (Some x) rest (suc left) answer e s = let same : suc left - 1 ≡ left = omega arith in ap (slice_get rest) same ∙ e
 
+pub found_not : (found : Option Listed) (rest : List Listed) (left : ℕ) (answer : Option Listed) → slice_get (list_of found ++ rest) left ≡ answer → is_some found ≡ false → slice_get rest left ≡ answer
+found_not None rest left answer e n = e
+found_not (Some x) rest left answer e n = absurd (cc n)
+
 -- an item of the part at its place
 pub kept_at : (kept items : List Kept) (now : ItemPart) (spare i : ℕ) (got : Kept) → record { list = map logged_of kept; spare = spare } ≡ now → got ≡ get_or kept i got →
     get_or now.list i (logged_of got) ≡ logged_of got

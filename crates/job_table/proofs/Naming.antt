@@ -84,3 +84,15 @@ got_same rows i a b l e f = e ∙ any rows i l ∙ sym f
     any [] k h = absurd (omega arith)
     any (x ∷ xs) zero h = refl
     any (x ∷ xs) (suc k) h = any xs k (omega arith)
+
+-- the part with room for one row fewer
+pub fewer_fits : (rows : List Row) (named expiries : ℕ → Option ℕ) (capacity room other spare : ℕ) → JobsFit rows named expiries capacity room other spare → JobsFit rows named expiries capacity room other (spare - 1)
+fewer_fits rows named expiries capacity room other spare fit = record {
+  rise = fit.rise;
+  fits = fit.fits;
+  named = fit.named;
+  expiries = fit.expiries;
+  rows_spare = omega (arith, fit.rows_spare);
+  named_spare = omega (arith, fit.named_spare);
+  expiries_spare = omega (arith, fit.expiries_spare);
+}

@@ -34,6 +34,17 @@ one_more p xs i x f e n k y g l = go (nat_lt i k) refl
         let here : Some y ≡ Some x = sym g ∙ ap (slice_get xs) same ∙ e in
         let is : y ≡ x = cc here in ap p is ∙ n
 
+pub one_more_below : (p : Logged → Bool) (xs : List Logged) (i high : ℕ) (x : Logged) → ((k : ℕ) (y : Logged) → slice_get xs k ≡ Some y → i + 1 ≤ k → k < high → p y ≡ false) → slice_get xs i ≡ Some x → p x ≡ false →
+    (k : ℕ) (y : Logged) → slice_get xs k ≡ Some y → i ≤ k → k < high → p y ≡ false
+one_more_below p xs i high x f e n k y g l m = go (nat_lt i k) refl
+  where
+    go : (b : Bool) → nat_lt i k ≡ b → p y ≡ false
+    go true h = f k y g (grind (arith, nat_tests, h)) m
+    go false h =
+        let same : k ≡ i = grind (arith, nat_tests, h, l) in
+        let here : Some y ≡ Some x = sym g ∙ ap (slice_get xs) same ∙ e in
+        let is : y ≡ x = cc here in ap p is ∙ n
+
 all_fail : (p : Logged → Bool) (xs : List Logged) (n i : ℕ) → FailsFrom p xs n → FailsBefore p xs i → n ≤ i → (k : ℕ) (x : Logged) → slice_get xs k ≡ Some x → p x ≡ false
 all_fail p xs n i from before l k x e = go (nat_lt k i) refl
   where
@@ -111,6 +122,14 @@ one_left q (y ∷ ys) (suc i) x e h = go (q y) (one_left q ys i x e h)
     go true more = more
     go false more = refl
 
+-- the lesser of two numbers is within what the second is
+pub lesser_within : (b : Bool) (n end m most : ℕ) → nat_lt n end ≡ b → m ≡ cond (nat_lt n end) n end → end ≤ most → m ≤ most
+lesser_within b n end m most h e l = go b h
+  where
+    go : (c : Bool) → nat_lt n end ≡ c → m ≤ most
+    go true k = let is : m ≡ n = e ∙ ap (λ (d : Bool). cond d n end) k in let less : n < end = grind (arith, nat_tests, k) in omega (arith, is, less, l)
+    go false k = let is : m ≡ end = e ∙ ap (λ (d : Bool). cond d n end) k in omega (arith, is, l)
+
 -- what a span says
 
 module _ (xs : List Logged) (job : ℕ) (span : Span) (spans : Spans xs job span) where
@@ -130,6 +149,15 @@ module _ (xs : List Logged) (job : ℕ) (span : Span) (spans : Spans xs job span
 
   pub listed_within : (n : ℕ) → n ≡ span.end → listed_from job 0 (take n xs) ≡ listed_from job 0 xs
   listed_within n e = ap (λ (m : ℕ). listed_from job 0 (take m xs)) e ∙ listed_past job 0 span.end xs others_from
+
+  pub listed_upto : (n m : ℕ) → m ≡ cond (nat_lt n span.end) n span.end → listed_from job 0 (take m xs) ≡ listed_from job 0 (take n xs)
+  listed_upto n m e = ap (λ (k : ℕ). listed_from job 0 (take k xs)) e ∙ go (nat_lt n span.end) refl
+    where
+      go : (b : Bool) → nat_lt n span.end ≡ b → listed_from job 0 (take (cond b n span.end) xs) ≡ listed_from job 0 (take n xs)
+      go true h = refl
+      go false h =
+          let up : span.end ≤ n = grind (arith, nat_tests, h) in
+          listed_past job 0 span.end xs others_from ∙ sym (listed_past job 0 n xs (λ k x f l. others_from k x f (omega (arith, up, l))))
 
   pub listed_end : (i : ℕ) → i ≤ span.first → listed_from job 0 (take i xs) ≡ []
   listed_end i l = listed_front job 0 i xs (before_less (is_of_job job) xs i span.first l others_before)

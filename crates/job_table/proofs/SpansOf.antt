@@ -1,10 +1,11 @@
-use Rattle.std.proofs.Common.{◌≡◌, ℕ, zero, suc, ◌+◌, ◌-◌, ◌<◌, ◌≤◌, Bool, true, false, cond, List, [], ◌∷◌, ◌++◌, length, Option, Some, refl, sym, ap, ◌∙◌, subst, arith, ◌⊎◌, inl, inr}
+use Rattle.std.proofs.Common.{◌≡◌, ℕ, zero, suc, ◌+◌, ◌-◌, ◌<◌, ◌≤◌, Bool, true, false, cond, ◌&&◌, List, [], ◌∷◌, ◌++◌, length, Option, Some, refl, sym, ap, ◌∙◌, subst, arith, ◌⊎◌, inl, inr}
 use Rattle.std.specs.Prelude.{nat_eq, nat_lt, slice_get, is_none, unwrap_or}
 use Rattle.std.proofs.lemmas.Bool.Decides.{nat_tests}
 use Rattle.delf_model.specs.State.{Logged, Handled, job_of}
 use Rattle.delf_model.specs.Step.{handled_at}
 use Rattle.job_table.specs.declared.spans.Span.{Span}
-use Rattle.job_table.specs.Spans.{no_span, grown_span, handled_span, InSpan, Spans, Within, SpansFit}
+use Rattle.job_table.specs.Items.{is_unhandled_of}
+use Rattle.job_table.specs.Spans.{no_span, grown_span, InSpan, Spans, Within, SpansFit}
 use Rattle.job_table.proofs.Tallying.{handled_length}
 
 -- an element of a list with one more, and with one handled
@@ -101,6 +102,10 @@ pushed_spans xs after y span_at span_at' room room' spare job n span fit a j l i
 
 -- the spans with an item handled
 
+-- the span where nothing is left from the handled item on, if it was the last one left
+abbrev handled_span : ℕ → Span → Span
+handled_span i span = record { first = span.first; end = span.end; left = cond (nat_eq (i + 1) span.left) i span.left }
+
 handled_in_span : (xs : List Logged) (i job : ℕ) (how : Handled) (span : Span) → Spans xs job span → Spans (handled_at xs i how) job (handled_span i span)
 handled_in_span xs i job how span old k x e j = by (handled_get xs i how k x e)
   where
@@ -118,6 +123,33 @@ handled_in_span xs i job how span old k x e j = by (handled_get xs i how k x e)
         let o = h.1.0 in let was = old k o h.1.1 (ap job_of h.1.2 ∙ j) in
         record { first = was.first; end = was.end; left = λ n. absurd (let f = h.1.3 in cc (f, n)) }
 
+-- an item that was not the last one left
+pub handled_inner : (xs : List Logged) (i job : ℕ) (how : Handled) (span : Span) → Spans xs job span → nat_eq (i + 1) span.left ≡ false → Spans (handled_at xs i how) job span
+handled_inner xs i job how span old n =
+    subst (λ (m : ℕ). Spans (handled_at xs i how) job (record { first = span.first; end = span.end; left = m })) (ap (λ (b : Bool). cond b i span.left) n) (handled_in_span xs i job how span old)
+
+-- the last one left, where no unhandled one stands between it and this number
+pub handled_last : (xs : List Logged) (i job low : ℕ) (how : Handled) (span : Span) → Spans xs job span → nat_eq (i + 1) span.left ≡ true →
+    ((k : ℕ) (x : Logged) → slice_get xs k ≡ Some x → low ≤ k → k < i → is_unhandled_of job x ≡ false) → Spans (handled_at xs i how) job (record { first = span.first; end = span.end; left = low })
+handled_last xs i job low how span old t none k x e j = by (handled_get xs i how k x e)
+  where
+    was : InSpan (handled_span i span) k x
+    was = handled_in_span xs i job how span old k x e j
+
+    short : is_none x.handled ≡ true → k < i
+    short n = let l = was.left n in let is : cond (nat_eq (i + 1) span.left) i span.left ≡ i = ap (λ (b : Bool). cond b i span.left) t in omega (arith, l, is)
+
+    here : is_none x.handled ≡ true → is_unhandled_of job x ≡ true
+    here n = let own : nat_eq (job_of x.item) job ≡ true = grind (arith, nat_tests, j) in ap (λ (b : Bool). nat_eq (job_of x.item) job && b) n ∙ ap (λ (b : Bool). b && true) own
+
+    by : (slice_get xs k ≡ Some x × (k ≡ i → ⊥)) ⊎ ((k ≡ i) × ((o : Logged) × (slice_get xs k ≡ Some o) × (o.item ≡ x.item) × (is_none x.handled ≡ false))) → InSpan (record { first = span.first; end = span.end; left = low }) k x
+    by (inl h) = record { first = was.first; end = was.end; left = λ n. below n (nat_lt k low) refl }
+      where
+        below : is_none x.handled ≡ true → (b : Bool) → nat_lt k low ≡ b → k < low
+        below n true g = grind (arith, nat_tests, g)
+        below n false g = absurd (let up : low ≤ k = grind (arith, nat_tests, g) in let f = none k x h.0 up (short n) in let z = here n in cc (f, z))
+    by (inr h) = record { first = was.first; end = was.end; left = λ n. absurd (let f = h.1.3 in cc (f, n)) }
+
 same_in_span : (xs : List Logged) (i job : ℕ) (how : Handled) (span : Span) → Spans xs job span → Spans (handled_at xs i how) job span
 same_in_span xs i job how span old k x e j = by (handled_get xs i how k x e)
   where
@@ -128,8 +160,8 @@ same_in_span xs i job how span old k x e j = by (handled_get xs i how k x e)
         record { first = was.first; end = was.end; left = λ n. absurd (let f = h.1.3 in cc (f, n)) }
 
 pub handled_spans : (xs after : List Logged) (how : Handled) (span_at span_at' : ℕ → Option Span) (room room' spare job i : ℕ) (span : Span) → SpansFit xs span_at room spare → after ≡ handled_at xs i how → i < length xs →
-    span ≡ handled_span i (unwrap_or (span_at job) no_span) → ((other : ℕ) → span_at' other ≡ cond (nat_eq job other) (Some span) (span_at other)) → room ≤ room' + 1 → 0 < spare → SpansFit after span_at' room' (spare - 1)
-handled_spans xs after how span_at span_at' room room' spare job i span fit a short is up r some = record {
+    Spans (handled_at xs i how) job span → Within xs span → ((other : ℕ) → span_at' other ≡ cond (nat_eq job other) (Some span) (span_at other)) → room ≤ room' + 1 → 0 < spare → SpansFit after span_at' room' (spare - 1)
+handled_spans xs after how span_at span_at' room room' spare job i span fit a short own over up r some = record {
   spans = λ other. subst (λ (o : Option Span). Spans after other (unwrap_or o no_span)) (sym (up other)) (subst (λ (v : List Logged). Spans v other (unwrap_or (cond (nat_eq job other) (Some span) (span_at other)) no_span)) (sym a) (spans other (nat_eq job other) refl));
   within = λ other. subst (λ (o : Option Span). Within after (unwrap_or o no_span)) (sym (up other)) (within other (nat_eq job other));
   spans_spare = omega (arith, fit.spans_spare, r, some);
@@ -141,18 +173,12 @@ handled_spans xs after how span_at span_at' room room' spare job i span fit a sh
     spans : (other : ℕ) (b : Bool) → nat_eq job other ≡ b → Spans (handled_at xs i how) other (unwrap_or (cond b (Some span) (span_at other)) no_span)
     spans other true h =
         let same : job ≡ other = grind (arith, nat_tests, h) in
-        subst (λ (v : Span). Spans (handled_at xs i how) other v) (sym is)
-        (subst (λ (m : ℕ). Spans (handled_at xs i how) m (handled_span i (unwrap_or (span_at job) no_span))) same (handled_in_span xs i job how (unwrap_or (span_at job) no_span) (fit.spans job)))
+        subst (λ (m : ℕ). Spans (handled_at xs i how) m span) same own
     spans other false h = same_in_span xs i other how (unwrap_or (span_at other) no_span) (fit.spans other)
 
-    lower : (b : Bool) (m : ℕ) → m ≤ length xs → cond b i m ≤ length after
-    lower true m l = let e = len in omega (arith, e, short)
-    lower false m l = let e = len in omega (arith, e, l)
-
     within : (other : ℕ) (b : Bool) → Within after (unwrap_or (cond b (Some span) (span_at other)) no_span)
-    within other true =
-        let w = fit.within job in let e = len in let f = w.first in let d = w.end in
-        subst (λ (v : Span). Within after v) (sym is) (record { first = omega (arith, e, f); end = omega (arith, e, d); left = lower (nat_eq (i + 1) (unwrap_or (span_at job) no_span).left) _ w.left })
+    within other true = let e = len in let f = over.first in let d = over.end in let o = over.left in
+        record { first = omega (arith, e, f); end = omega (arith, e, d); left = omega (arith, e, o) }
     within other false = let w = fit.within other in let e = len in let f = w.first in let d = w.end in let o = w.left in
         record { first = omega (arith, e, f); end = omega (arith, e, d); left = omega (arith, e, o) }
 

@@ -45,7 +45,7 @@ tally_push job xs y =
     go true e c p l u w = same_tally _ _ e c p l u w
     go false e c p l u w = same_tally _ _ (omega (arith, e)) (omega (arith, c)) (omega (arith, p)) (omega (arith, l)) (omega (arith, u)) (omega (arith, w))
 
-sum_handled : (f : Logged → ℕ) (xs : List Logged) (i : ℕ) (old : Logged) (how : Handled) → i < length xs → old ≡ get_or xs i old →
+pub sum_handled : (f : Logged → ℕ) (xs : List Logged) (i : ℕ) (old : Logged) (how : Handled) → i < length xs → old ≡ get_or xs i old →
     (sum_by f (handled_at xs i how) + f old ≡ sum_by f xs + f (record { item = old.item; handled = Some how })) × (f old ≤ sum_by f xs)
 sum_handled f [] i old how l e = absurd (omega arith)
 sum_handled f (x ∷ xs) zero old how l e =

@@ -1,5 +1,5 @@
 use Rattle.std.proofs.Common.{◌≡◌, ℕ, zero, suc, ◌+◌, ◌-◌, ◌<◌, ◌≤◌, Bool, true, false, cond, not, ◌&&◌, ◌||◌, List, [], ◌∷◌, ◌++◌, map, length, get_or, set, Option, Some, None, refl, sym, ap, ◌∙◌, arith}
-use Rattle.std.specs.Prelude.{insert, remove, find, nat_eq, nat_lt, option_map, option_and_then, slice_get}
+use Rattle.std.specs.Prelude.{insert, remove, find, nat_eq, nat_lt, option_map, option_and_then, slice_get, is_some}
 use Rattle.std.specs.List.{position, list_any}
 use Rattle.std.proofs.lemmas.Bool.Decides.{nat_tests}
 use Rattle.std.proofs.lemmas.List.Quantifiers.{position-Some}
@@ -151,9 +151,6 @@ none_started rows list start e r =
     none_left (Some x) h = absurd (cc h)
 
 module _ (rows : List Row) (pairs : List (ℕ × ℕ)) (capacity front spare : ℕ) (fit : WaitsFit rows pairs capacity front spare) where
-  pub free_to_wait : (list : List JobRow) (start : ℕ) → map row_of rows ≡ list → starts_rise 0 start list ≡ true → owner_among pairs start ≡ None
-  free_to_wait list start e r = fit.waits start ∙ ap (option_and_then waits_of) (none_started rows list start e r)
-
   pub waits_at : (slice : List Row) (job i : ℕ) (old : Row) → slice ≡ rows → Some i ≡ position (is_start job) slice → old ≡ get_or rows i old → owner_among pairs old.start ≡ waits_of old
   waits_at slice job i old e p g =
       let facts = position-Some (is_start job) rows i old (sym (p ∙ ap (position (is_start job)) e)) in
@@ -164,17 +161,16 @@ module _ (rows : List Row) (pairs : List (ℕ × ℕ)) (capacity front spare : �
   pub still_purged : (i : ℕ) (y old : Row) → old ≡ get_or rows i old → (old.purged ≡ true → y.purged ≡ true) → (k : ℕ) (d : Row) → k < front → (get_or (set rows i y) k d).purged ≡ true
   still_purged i y old e up k d h = get_changed rows i k y old d (omega (arith, h, fit.within)) e up (fit.purged k d h)
 
-  pub started_waits : (after : List Row) (pairs' : List (ℕ × ℕ)) (list : List JobRow) (capacity' start : ℕ) (y : Row) → map row_of rows ≡ list → starts_rise 0 start list ≡ true → after ≡ rows ++ y ∷ [] → y.start ≡ start → waits_of y ≡ Some 0 →
-      pairs_rise pairs' ≡ true → are_apart pairs' ≡ true → ((q : ℕ) → owner_among pairs' q ≡ cond (nat_eq q start) (Some 0) (owner_among pairs q)) → length pairs' ≡ length pairs + 1 → capacity ≤ capacity' → 0 < spare →
-      WaitsFit after pairs' capacity' front (spare - 1)
-  started_waits after pairs' list capacity' start y v r a s w rises apart told len cap some = record {
-    rise = rises;
-    apart = apart;
+  pub started_waits : (after : List Row) (list : List JobRow) (start : ℕ) (y : Row) → map row_of rows ≡ list → starts_rise 0 start list ≡ true → after ≡ rows ++ y ∷ [] → y.start ≡ start → waits_of y ≡ None →
+      WaitsFit after pairs capacity front (spare - 1)
+  started_waits after list start y v r a s w = record {
+    rise = fit.rise;
+    apart = fit.apart;
     waits = λ q.
-        told q ∙ ap (λ (o : Option ℕ). cond (nat_eq q start) (Some 0) o) (fit.waits q)
+        fit.waits q
         ∙ sym (ap (λ (xs : List Row). waits_in xs q) a ∙ ap (option_and_then waits_of) (find_added q y rows (ap (λ (n : ℕ). find (is_start n) rows) s ∙ none_started rows list start v r))
-        ∙ ap (λ (n : ℕ). option_and_then waits_of (cond (nat_eq q n) (Some y) (find (is_start q) rows))) s ∙ into (nat_eq q start) q);
-    room = omega (arith, fit.room, len, cap, some);
+        ∙ ap (λ (n : ℕ). option_and_then waits_of (cond (nat_eq q n) (Some y) (find (is_start q) rows))) s ∙ into q (nat_eq q start) refl);
+    room = omega (arith, fit.room);
     within = let n = longer in omega (arith, n, fit.within);
     purged = λ k d h. ap (λ (xs : List Row). (get_or xs k d).purged) a ∙ ap (λ (x : Row). x.purged) (get_front rows y d k (omega (arith, h, fit.within))) ∙ fit.purged k d h;
   }
@@ -186,15 +182,17 @@ module _ (rows : List Row) (pairs : List (ℕ × ℕ)) (capacity front spare : �
           grown [] = refl
           grown (z ∷ zs) = let more = grown zs in omega (arith, more)
 
-      into : (b : Bool) (q : ℕ) → option_and_then waits_of (cond b (Some y) (find (is_start q) rows)) ≡ cond b (Some 0) (waits_in rows q)
-      into true q = w
-      into false q = refl
+      into : (q : ℕ) (b : Bool) → nat_eq q start ≡ b → option_and_then waits_of (cond b (Some y) (find (is_start q) rows)) ≡ waits_in rows q
+      into q true h =
+          let same : start ≡ q = grind (arith, nat_tests, h) in
+          w ∙ sym (ap (λ (n : ℕ). waits_in rows n) (sym same) ∙ ap (option_and_then waits_of) (none_started rows list start v r))
+      into q false h = refl
 
-  pub changed_waits : (slice : List Row) (pairs' : List (ℕ × ℕ)) (capacity' front' job i : ℕ) (y old : Row) → slice ≡ rows → Some i ≡ position (is_start job) slice → old ≡ get_or rows i old → y.start ≡ old.start →
-      pairs_rise pairs' ≡ true → are_apart pairs' ≡ true → ((q : ℕ) → owner_among pairs' q ≡ cond (nat_eq q old.start) (waits_of y) (owner_among pairs q)) → length pairs' ≤ length pairs → capacity ≤ capacity' →
+  pub changed_waits : (slice : List Row) (pairs' : List (ℕ × ℕ)) (capacity' front' spare' job i : ℕ) (y old : Row) → slice ≡ rows → Some i ≡ position (is_start job) slice → old ≡ get_or rows i old → y.start ≡ old.start →
+      pairs_rise pairs' ≡ true → are_apart pairs' ≡ true → ((q : ℕ) → owner_among pairs' q ≡ cond (nat_eq q old.start) (waits_of y) (owner_among pairs q)) → length pairs' + spare' ≤ length pairs + spare → capacity ≤ capacity' →
       front' ≤ length rows → ((k : ℕ) (d : Row) → k < front' → (get_or (set rows i y) k d).purged ≡ true) →
-      WaitsFit (set rows i y) pairs' capacity' front' spare
-  changed_waits slice pairs' capacity' front' job i y old e p g s rises apart told len cap within purged = record {
+      WaitsFit (set rows i y) pairs' capacity' front' spare'
+  changed_waits slice pairs' capacity' front' spare' job i y old e p g s rises apart told len cap within purged = record {
     rise = rises;
     apart = apart;
     waits = λ q.
@@ -258,9 +256,6 @@ place_of g (x ∷ xs) zero d l = refl
 place_of g (x ∷ xs) (suc k) d l = place_of g xs k d (omega arith)
 
 module _ (rows : List Row) (pairs : List (ℕ × ℕ)) (capacity front spare : ℕ) (fit : WaitsFit rows pairs capacity front spare) (r : starts_rise 0 4294967296 (map row_of rows) ≡ true) where
-  waits_of_job : JobRow → Option ℕ
-  waits_of_job row = cond row.purged None (Some (last_erasure_or_zero row.last))
-
   waits_here : (k : ℕ) (d : Row) → k < length rows → owner_among pairs (get_or rows k d).start ≡ waits_of (get_or rows k d)
   waits_here k d l =
       fit.waits (get_or rows k d).start
@@ -269,16 +264,21 @@ module _ (rows : List Row) (pairs : List (ℕ × ℕ)) (capacity front spare : �
     where
       through : (o : Option Row) → option_map row_of o ≡ Some (row_of (get_or rows k d)) → option_and_then waits_of o ≡ waits_of (get_or rows k d)
       through None h = absurd (cc h)
-      through (Some x) h = let same : row_of x ≡ row_of (get_or rows k d) = cc h in ap (λ (j : JobRow). cond j.purged None (Some (last_erasure_or_zero j.last))) same
+      through (Some x) h = let same : row_of x ≡ row_of (get_or rows k d) = cc h in ap (λ (j : JobRow). cond {A = Option ℕ} j.purged None j.last) same
 
   pub none_has_waited : (window moment : ℕ) → ((start last : ℕ) → owner_among pairs start ≡ Some last → nat_lt (last + window) moment ≡ false) → list_any (has_waited window moment) (map row_of rows) ≡ false
   none_has_waited window moment late = none_passes row_of (has_waited window moment) rows (λ k d l. go (get_or rows k d) (get_or rows k d).purged refl (waits_here k d l))
     where
-      go : (row : Row) (b : Bool) → row.purged ≡ b → owner_among pairs row.start ≡ cond row.purged None (Some (last_erasure_or_zero row.last)) → (not row.purged && nat_lt (last_erasure_or_zero row.last + window) moment) ≡ false
-      go row true h o = ap (λ (c : Bool). not c && nat_lt (last_erasure_or_zero row.last + window) moment) h
+      by : (row : Row) (o : Option ℕ) → row.last ≡ o → owner_among pairs row.start ≡ o → (is_some o && nat_lt (last_erasure_or_zero o + window) moment) ≡ false
+      by row None e o = refl
+      by row (Some last) e o = late row.start last o
+
+      go : (row : Row) (b : Bool) → row.purged ≡ b → owner_among pairs row.start ≡ cond row.purged None row.last →
+          (not row.purged && is_some row.last && nat_lt (last_erasure_or_zero row.last + window) moment) ≡ false
+      go row true h o = ap (λ (c : Bool). not c && is_some row.last && nat_lt (last_erasure_or_zero row.last + window) moment) h
       go row false h o =
-          ap (λ (c : Bool). not c && nat_lt (last_erasure_or_zero row.last + window) moment) h
-          ∙ late row.start (last_erasure_or_zero row.last) (o ∙ ap (λ (c : Bool). cond c None (Some (last_erasure_or_zero row.last))) h)
+          ap (λ (c : Bool). not c && is_some row.last && nat_lt (last_erasure_or_zero row.last + window) moment) h
+          ∙ by row row.last refl (o ∙ ap (λ (c : Bool). cond {A = Option ℕ} c None row.last) h)
 
   pub none_past_first : (pair : ℕ × ℕ) (window moment : ℕ) (past : Bool) → Some pair ≡ slice_get pairs 0 → past ≡ nat_lt (pair.1 + window) moment → past ≡ false → list_any (has_waited window moment) (map row_of rows) ≡ false
   none_past_first pair window moment past f e n =

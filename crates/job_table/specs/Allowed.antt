@@ -1,3 +1,4 @@
+-- What a Purge and a Restore have to meet, read of one row.
 use Rattle.std.specs.Prelude.{ℕ, ◌+◌, Bool, true, false, ◌&&◌, not, nat_eq, nat_le, is_none, sum_by}
 use Rattle.delf_model.specs.declared.call.Status.{Status}
 use Rattle.delf_model.specs.declared.call.Status.TheVariants.{NoJob, Pending, Done, Restoring, Restored, Purged}

@@ -1,3 +1,4 @@
+-- Lists of pairs in which no id stands twice.
 use Rattle.std.specs.Prelude.{ℕ, Bool, true, ◌&&◌, not, List, [], ◌∷◌}
 use Rattle.std.specs.List.{list_any}
 use Rattle.job_table.specs.Table.{is_of_id}

@@ -1,3 +1,4 @@
+-- That the parts of a table have room for the spare, within the room rule.
 use Rattle.std.specs.Prelude.{ℕ, ◌+◌, ◌<◌, ◌≤◌, ◌^◌, length}
 use Rattle.job_table.specs.Parts.{ItemPart, JobPart, OwnerPart, SeatPart, ClaimPart}
 

@@ -1,3 +1,4 @@
+-- Steps of owned objects that are not held.
 use Rattle.std.specs.Prelude.{ℕ, Bool, cond, ◌||◌, not, List, Option, Some, None, find, is_some, option_map, option_and_then}
 use Rattle.delf_model.specs.declared.rows.EdgeRow.{EdgeRow}
 use Rattle.delf_model.specs.declared.entry.What.{What}

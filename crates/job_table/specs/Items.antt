@@ -1,3 +1,4 @@
+-- Readings of one item: unhandled, listed.
 use Rattle.std.specs.Prelude.{ℕ, Bool, cond, ◌&&◌, nat_eq, nat_lt, Option, Some, None, is_none}
 use Rattle.delf_model.specs.declared.rows.Item.{Item}
 use Rattle.delf_model.specs.declared.call.Cause.{Cause}

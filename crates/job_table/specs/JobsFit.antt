@@ -1,3 +1,4 @@
+-- What holds of the kept rows of jobs and of the jobs by name.
 use Rattle.std.specs.Prelude.{◌≡◌, ℕ, ◌+◌, ◌<◌, ◌≤◌, ◌^◌, List, Option, map, length, IsTrue}
 use Rattle.delf_model.specs.declared.ids.JobName.TheVariants.{Named, Expiry}
 use Rattle.delf_model.specs.State.{find_job}

@@ -1,7 +1,10 @@
+-- The definitions of this crate: what a table stands for (Table), what each entry changes (Notes), what `next` answers (Next), and what the parts keep.
 pub mod Allowed
 pub mod Apart
+pub mod Ends
 pub mod Fits
 pub mod Free
+pub mod Fresh
 pub mod Items
 pub mod JobsFit
 pub mod Next

@@ -1,3 +1,4 @@
+-- Owned objects with their jobs, in order.
 use Rattle.std.specs.Prelude.{◌≡◌, ℕ, ◌+◌, ◌<◌, ◌≤◌, ◌^◌, Bool, true, cond, ◌&&◌, ◌||◌, nat_eq, nat_lt, List, [], ◌∷◌, Option, Some, is_some, length, IsTrue}
 use Rattle.delf_model.specs.State.{JobRow, job_row}
 use Rattle.job_table.specs.Apart.{are_apart}

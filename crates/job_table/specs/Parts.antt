@@ -1,3 +1,4 @@
+-- What the kept structs stand for, each a list with its spare.
 use Rattle.std.specs.Prelude.{ℕ, Bool, cond, nat_eq, nat_lt, List, [], ◌∷◌, option_map}
 use Rattle.delf_model.specs.declared.entry.What.{What}
 use Rattle.delf_model.specs.State.{Handled, Logged, JobRow}

@@ -1,3 +1,4 @@
+-- The queue of restored jobs that have unhandled items.
 use Rattle.std.specs.Prelude.{◌≡◌, ℕ, ◌+◌, ◌≤◌, cond, nat_lt, List, Option, None, count_by, length, option_and_then, IsTrue}
 use Rattle.delf_model.specs.State.{JobRow, Logged, job_row}
 use Rattle.job_table.specs.Apart.{are_apart}

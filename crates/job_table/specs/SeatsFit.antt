@@ -1,3 +1,4 @@
+-- What holds of the kept seats and their counts.
 use Rattle.std.specs.Prelude.{◌≡◌, ℕ, ◌+◌, ◌<◌, ◌≤◌, ◌^◌, List, Option, nat_eq, length, count_by, unwrap_or}
 use Rattle.job_table.specs.Table.{greatest}
 

@@ -1,3 +1,4 @@
+-- Whether a kept row may be purged, over the parts of a table.
 use Rattle.std.specs.Prelude.{ℕ, ◌+◌, Bool, cond, ◌&&◌, not, nat_eq, nat_lt, List, is_some, count_by}
 use Rattle.delf_model.specs.State.{Logged}
 use Rattle.delf_model.specs.State.{last_erasure_or_zero}

@@ -1,3 +1,4 @@
+-- Between which numbers the items of a job stand, and below which its unhandled ones.
 use Rattle.std.specs.Prelude.{◌≡◌, ℕ, ◌+◌, ◌<◌, ◌≤◌, true, cond, nat_eq, List, Option, Some, length, is_none, slice_get, unwrap_or}
 use Rattle.delf_model.specs.State.{Logged, job_of}
 use Rattle.job_table.specs.declared.spans.Span.{Span}
@@ -9,10 +10,6 @@ no_span = record { first = 0; end = 0; left = 0 }
 -- the span with this number, which is past all others
 abbrev pub grown_span : ℕ → Span → Span
 grown_span n span = record { first = cond (nat_eq span.end 0) n span.first; end = n + 1; left = n + 1 }
-
--- the span after the item with this number is handled
-abbrev pub handled_span : ℕ → Span → Span
-handled_span i span = record { first = span.first; end = span.end; left = cond (nat_eq (i + 1) span.left) i span.left }
 
 -- the number of an item stands in the span of its job
 pub record InSpan (span : Span) (i : ℕ) (logged : Logged) : Type 0 where

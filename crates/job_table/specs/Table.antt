@@ -1,3 +1,4 @@
+-- What a table is, and of which states it is the table.
 use Rattle.std.specs.Prelude.{◌≡◌, ℕ, suc, ◌≤◌, max, Bool, true, cond, ◌&&◌, not, nat_eq, nat_lt, List, [], ◌∷◌, Option, find, map, count_by, slice_get, option_map, option_and_then, IsTrue}
 use Rattle.delf_model.specs.declared.rows.ObjectRow.{ObjectRow}
 use Rattle.delf_model.specs.declared.rows.Item.{Item}

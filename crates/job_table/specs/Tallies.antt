@@ -1,3 +1,4 @@
+-- What the items of a job come to, and what holds of the kept tallies.
 use Rattle.std.specs.Prelude.{◌≡◌, ℕ, ◌+◌, ◌-◌, ◌<◌, ◌≤◌, ◌^◌, cond, not, List, Option, length, map, count_by, sum_by, is_none, unwrap_or}
 use Rattle.delf_model.specs.State.{Logged, is_object_item}
 use Rattle.delf_model.specs.Report.{is_object_of, is_edge_of, is_put_of, is_listed_of, was_put, was_listed}

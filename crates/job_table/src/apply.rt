@@ -1,3 +1,4 @@
+//! How each kind of entry changes the table.
 ghost use Rattle.std.specs.Prelude.{◌≡◌, ◌+◌, ◌-◌, ◌<◌, ◌≤◌, ◌++◌, ◌∷◌, [], true, false, cond, nat_eq, None, ℕ, ◌^◌, length, sum_by, Some, IsTrue, is_none, ◌&&◌};
 ghost use Rattle.delf_model.specs.declared.entry.What.{What};
 ghost use Rattle.delf_model.specs.declared.entry.Entry.{Entry};
@@ -271,6 +272,7 @@ impl JobTable {
     fn note_erase(&mut self, moment: Moment, job: Job, row: &ObjectRow, id: ObjectId)
         requires spare { 0 < self.old.spare }
         requires owed { 1 ≤ self.old.owed }
+        requires owner { owner_among self.old.owners id ≡ Some job }
         ensures same { self.new ≡ record (noted_item self.old moment job (Item.Object job row.now) (self.old.owed - 1)) { owners = self.new.owners } }
         ensures owners { (other : ℕ) → owner_among self.new.owners other ≡ cond (nat_eq other id) None (owner_among self.old.owners other) }
         ensures owned { (other : ℕ) → owned_among self.new.owners other + cond (is_job other (owner_among self.old.owners id)) 1 0 ≡ owned_among self.old.owners other }

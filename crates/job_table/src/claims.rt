@@ -1,3 +1,4 @@
+//! The steps that are held.
 ghost use Rattle.std.specs.Prelude.{◌≡◌, ◌+◌, ◌<◌, ◌≤◌, ◌^◌, ◌++◌, ◌∷◌, [], true, OnOk, length};
 ghost use Rattle.delf_model.specs.Order.{is_held, erases_same as is_same_row};
 ghost use Rattle.std.specs.List.{position};

@@ -1,3 +1,4 @@
+//! A step of an owned object that is not held.
 ghost use Rattle.std.specs.Prelude.{◌≡◌};
 ghost use Rattle.delf_model.specs.Graph.{out_edges, in_edges, is_touched as is_touched_in};
 ghost use Rattle.job_table.specs.Free.{free_cut, free_erase as free_erase_of, free_step as free_step_of};

@@ -1,8 +1,9 @@
-ghost use Rattle.std.specs.Prelude.{◌≡◌, ◌+◌, ◌<◌, ◌≤◌, ◌^◌, ◌++◌, ◌∷◌, [], OnOk, drop, length, slice_get, option_map, count_by, sum_by, cond, is_some, nat_eq, ◌-◌, ◌&&◌, Some, unwrap_or, ℕ};
+//! The items of the history by number, with what is kept of each job of them.
+ghost use Rattle.std.specs.Prelude.{◌≡◌, ◌+◌, ◌<◌, ◌≤◌, ◌^◌, ◌++◌, ◌∷◌, [], OnOk, drop, length, slice_get, option_map, count_by, sum_by, cond, is_some, nat_eq, ◌-◌, ◌&&◌, Some, unwrap_or, false, true, nat_lt, take, ℕ};
 ghost use Rattle.delf_model.specs.Order.{last_place};
 ghost use Rattle.job_table.specs.Parts.{logged_of, handled_of};
 ghost use Rattle.delf_model.specs.Step.{unhandled, handled_at};
-ghost use Rattle.delf_model.specs.State.{job_of as job_of_item, is_object_item};
+ghost use Rattle.delf_model.specs.State.{Logged, Handled, job_of as job_of_item, is_object_item};
 ghost use Rattle.delf_model.specs.Report.{is_of_job, is_object_of, is_edge_of, is_put_of, is_listed_of, listed_from, was_put as was_put_back, was_listed as was_listed_so};
 ghost use Rattle.delf_model.specs.Legal.{end_handled, is_handled_end as is_handled_end_of};
 ghost use Rattle.job_table.specs.Items.{is_unhandled_of, listing_of};
@@ -12,7 +13,8 @@ ghost use Rattle.job_table.specs.Tallies.{tally_of};
 ghost use Rattle.job_table.specs.Unput.{is_unput as is_unput_of, next_unput as first_unput};
 ghost use Rattle.std.specs.HashMap.{get, spare};
 
-use crate::spans::{Span, grown, handled, no_span};
+use crate::ends::{close, count_of, end_key, open};
+use crate::spans::{Span, grown, no_span};
 use crate::tallies::{Tally, no_tally, share_of, with, without};
 use delf_model::{Cause, Item, Job, Listed, ObjectId};
 use std::alloc::{AllocError, Global};
@@ -33,12 +35,14 @@ pub struct Kept {
     pub handled: Option<Handling>,
 }
 
-/// The items of a history, numbered by place, with the tally of each job and where its items stand.
+/// The items of a history, numbered by place, with the tally of each job, where its items stand, and the counts of its
+/// unhandled object items.
 #[derive(Drop)]
 pub struct Items {
     items: Vec<Kept>,
     tallies: HashMap<u32, Tally>,
     spans: HashMap<u32, Span>,
+    ends: HashMap<u64, u32>,
     spare: u32,
 }
 
@@ -46,6 +50,7 @@ impl Model for Items {
     ghost use Rattle.std.specs.Prelude.{map, nat_eq, vec_capacity};
     ghost use Rattle.std.specs.HashMap.{get, spare as room_of};
     ghost use Rattle.job_table.specs.Parts.{ItemPart, logged_of};
+    ghost use Rattle.job_table.specs.Ends.{EndsFit};
     ghost use Rattle.job_table.specs.Spans.{SpansFit};
     ghost use Rattle.job_table.specs.Tallies.{ItemsFit};
 
@@ -53,7 +58,7 @@ impl Model for Items {
 
     ghost view = { λ l. record { list = map logged_of l.items.items; spare = l.spare } };
 
-    ghost invariant = { λ l. ItemsFit l.items.items (get nat_eq l.tallies) (vec_capacity l.items) (room_of l.tallies) l.spare × SpansFit (map logged_of l.items.items) (get nat_eq l.spans) (room_of l.spans) l.spare };
+    ghost invariant = { λ l. ItemsFit l.items.items (get nat_eq l.tallies) (vec_capacity l.items) (room_of l.tallies) l.spare × SpansFit (map logged_of l.items.items) (get nat_eq l.spans) (room_of l.spans) l.spare × EndsFit (map logged_of l.items.items) (get nat_eq l.ends) (room_of l.ends) l.spare };
 }
 
 impl Items {
@@ -64,6 +69,7 @@ impl Items {
             items: Vec::new(alloc),
             tallies: HashMap::new(alloc),
             spans: HashMap::new(alloc),
+            ends: HashMap::new(alloc),
             spare: 0,
         }
     }
@@ -79,6 +85,7 @@ impl Items {
         self.items.reserve(n as usize)?;
         self.tallies.reserve(n as usize)?;
         self.spans.reserve(n as usize)?;
+        self.ends.reserve(n as usize)?;
         self.spare = n;
         Ok(())
     }
@@ -102,6 +109,7 @@ impl Items {
         let job = job_of(&item);
         let tally = with(&self.tally(job), &share_of(&kept));
         let span = grown(&span_in(&self.spans, job), self.items.len() as u32);
+        open(&mut self.ends, &item);
         self.items.push_reserved(kept);
         keep(&mut self.tallies, job, tally);
         keep_span(&mut self.spans, job, span);
@@ -125,6 +133,49 @@ impl Items {
         ensures within { Within self.now.list result }
     {
         span_in(&self.spans, job)
+    }
+
+    /// Where the items of the job that starts here stand once the item with this number is handled. Looks at items only
+    /// where it was the last unhandled one, and then down to the next one.
+    fn span_after(&self, job: u32, i: u32) -> Span
+        requires within { i < length self.now.list }
+        requires fits { i + 1 < 2 ^ 32 }
+        ensures spans { (how : Handled) → Spans (handled_at self.now.list i how) job result }
+        ensures within { Within self.now.list result }
+    {
+        let span = self.span(job);
+        if i + 1 != span.left {
+            return span;
+        }
+        Span {
+            first: span.first,
+            end: span.end,
+            left: self.left_below(job, span.first, i),
+        }
+    }
+
+    /// A number up to this one, so that no unhandled item of the job stands from it on in front of this one; the greatest
+    /// with an unhandled item of the job before it, or the first where there is none.
+    fn left_below(&self, job: u32, first: u32, from: u32) -> u32
+        requires { from ≤ length self.now.list }
+        ensures within { result ≤ from }
+        ensures none { (k : ℕ) (x : Logged) → slice_get self.now.list k ≡ Some x → result ≤ k → k < from → is_unhandled_of job x ≡ false }
+    {
+        let mut i = from;
+        'items: while i > first {
+            if is_unhandled(&self.items[(i - 1) as usize], Job(job)) {
+                return i;
+            }
+            i -= 1;
+        }
+        i
+    }
+
+    /// Whether an object item of the job with this birth is not handled.
+    fn has_open_end(&self, job: Job, birth: u32) -> bool
+        ensures { result ≡ false → (id : ℕ) → end_handled self.now.list job id birth ≡ true }
+    {
+        count_of(&self.ends, end_key(job.0, birth)) > 0
     }
 
     pub fn get(&self, i: u32) -> Option<Kept>
@@ -151,7 +202,8 @@ impl Items {
         let job = job_of(&old.item);
         let rest = without(&self.tally(job), &share_of(&old));
         let tally = with(&rest, &share_of(&new));
-        let span = handled(&span_in(&self.spans, job), i as u32);
+        let span = self.span_after(job, i as u32);
+        close(&mut self.ends, &old);
         self.items[i] = new;
         keep(&mut self.tallies, job, tally);
         keep_span(&mut self.spans, job, span);
@@ -238,10 +290,14 @@ impl Items {
         self.tally(job.0).weight as u32
     }
 
-    /// Whether each object item of the job with this id and birth is handled.
+    /// Whether each object item of the job with this id and birth is handled. Looks at items only where one with this
+    /// birth is not.
     pub fn end_handled(&self, job: Job, id: ObjectId, birth: u32) -> bool
         ensures { result ≡ end_handled self.now.list job id birth }
     {
+        if !self.has_open_end(job, birth) {
+            return true;
+        }
         let span = self.span(job.0);
         let mut i = span.end;
         'items: while i > span.first {
@@ -251,6 +307,23 @@ impl Items {
             }
         }
         true
+    }
+
+    /// The listed item of the job with the greatest number below this one. Looks only at the items between the two, so
+    /// that all of them, read one after the other, cost one pass over where items of the job stand.
+    pub fn listed_before(&self, job: Job, below: u32) -> Option<Listed>
+        ensures { result ≡ slice_get (listed_from job 0 (take below self.now.list)) 0 }
+    {
+        let span = self.span(job.0);
+        let mut i = lesser(below, span.end);
+        'items: while i > span.first {
+            i -= 1;
+            let found = listing(job, i, &self.items[i as usize]);
+            if found.is_some() {
+                return found;
+            }
+        }
+        None
     }
 
     /// The listed item of the job at this place, by falling item number.
@@ -270,6 +343,12 @@ impl Items {
         }
         None
     }
+}
+
+fn lesser(a: u32, b: u32) -> u32
+    ensures { result ≡ cond (nat_lt a b) a b }
+{
+    if a < b { a } else { b }
 }
 
 /// Notes the tally of the job that starts here.

@@ -1,3 +1,4 @@
+//! The jobs by age, by name, and by the moment from which their window runs.
 ghost use Rattle.std.specs.Prelude.{◌≡◌, ◌+◌, ◌<◌, ◌≤◌, ◌^◌, ◌++◌, ◌∷◌, [], OnOk, length, slice_get, slice_index_or, option_map, map, cond, nat_eq, nat_lt, false, true, Some, ℕ, IsTrue};
 ghost use Rattle.std.specs.List.{position, list_any};
 ghost use Rattle.job_table.specs.Waits.{has_waited as has_waited_row};
@@ -10,7 +11,7 @@ ghost use Rattle.job_table.specs.Table.{starts_rise};
 ghost use Rattle.delf_model.specs.State.{job_row, find_job, starts_at};
 ghost use Rattle.delf_model.specs.Step.{new_job, row_restored_at, purged_if, erased_at};
 
-use crate::queue::{enter, first};
+use crate::queue::first;
 use crate::waiting::{leave_purged, wait_anew};
 use delf_model::{Job, JobName, Moment, ObjectId};
 use std::alloc::{AllocError, Global};
@@ -29,7 +30,8 @@ pub struct Row {
     pub last: Option<Moment>,
 }
 
-/// The jobs of a history by age, the latest job of each name, the jobs that are not purged by the moment of their last erasure, and a place in front of which all are purged.
+/// The jobs of a history by age, the latest job of each name, the jobs that have
+/// erased and are not purged by the moment of their last erasure, and a place in front of which all are purged.
 #[derive(Drop)]
 pub struct Jobs {
     rows: Vec<Row>,
@@ -94,7 +96,6 @@ impl Jobs {
         ensures spare { self.new.spare + 1 ≡ self.old.spare }
     {
         note_name(&mut self.named, &mut self.expiries, &name, start.0);
-        enter(&mut self.waiting, start, 0);
         self.rows.push_reserved(Row {
             start,
             root,
@@ -121,7 +122,7 @@ impl Jobs {
         self.front
     }
 
-    /// Whether the window of some job that is not purged is over.
+    /// Whether the window after the last erasure of some job that is not purged is over.
     pub fn has_waited(&self, window: u32, moment: Moment) -> bool
         ensures { result ≡ false → list_any (has_waited_row window moment) self.now.list ≡ false }
     {
@@ -188,14 +189,16 @@ impl Jobs {
     }
 
     pub fn erase(&mut self, job: Job, moment: Moment)
+        requires spare { 0 < self.old.spare }
         ensures list { self.new.list ≡ changed_first (starts_at job) (erased_at job moment) self.old.list }
         ensures len { length self.new.list ≡ length self.old.list }
-        ensures spare { self.new.spare ≡ self.old.spare }
+        ensures spare { self.old.spare ≤ self.new.spare + 1 }
     {
         match place(&self.rows, job) {
             Some(i) => {
                 wait_anew(&mut self.waiting, &self.rows[i], moment);
                 self.rows[i].last = Some(moment);
+                self.spare -= 1;
             }
             None => {}
         }

@@ -1,3 +1,4 @@
+//! Whether a Put, a Purge or a Restore may come.
 ghost use Rattle.std.specs.Prelude.{◌≡◌, ◌+◌, Some, nat_le, slice_get, sum_by};
 ghost use Rattle.delf_model.specs.declared.entry.What.{What};
 ghost use Rattle.delf_model.specs.declared.entry.Tag.{Tag};

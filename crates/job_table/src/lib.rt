@@ -3,6 +3,7 @@
 
 mod apply;
 mod claims;
+mod ends;
 mod free;
 mod items;
 mod jobs;
@@ -17,6 +18,8 @@ mod serial;
 mod spans;
 mod table;
 mod tallies;
+#[cfg(test)]
+mod tests;
 mod waiting;
 
 pub use next::Next;

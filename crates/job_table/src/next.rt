@@ -1,3 +1,4 @@
+//! The step that comes next, with held steps passed over.
 ghost use Rattle.std.specs.Prelude.{◌≡◌, ℕ, true, Some, [], None, IsTrue};
 ghost use Rattle.delf_model.specs.State.{State};
 ghost use Rattle.delf_model.specs.Order.{is_step};
@@ -109,7 +110,9 @@ impl JobTable {
         }
     }
 
-    /// A Cut or Erase that some job may make and that is not held.
+    /// A Cut or Erase that some job may make and that is not held. An owned object is passed only where each step that
+    /// takes an edge of it, or it, is held, and a held step touches two objects at most: so no more than twice as many
+    /// objects are looked at as steps are held, and one.
     fn free_erasure<G: GraphStore>(&self, graph: &G) -> Option<What>
         ensures value { result ≡ free_among (G.graph graph.now) self.now.held self.now.owners }
         ensures apart { IsTrue (are_apart self.now.owners) }

@@ -1,3 +1,4 @@
+//! The owned objects with the jobs that own them.
 ghost use Rattle.std.specs.Prelude.{◌≡◌, ◌+◌, ◌<◌, ◌≤◌, ◌^◌, [], None, cond, nat_eq, false, true, OnOk, IfSome, length, slice_get, slice_index_or, ℕ, IsTrue};
 ghost use Rattle.job_table.specs.Apart.{are_apart as are_apart_pairs};
 ghost use Rattle.job_table.specs.Owning.{is_before as is_before_pair, pairs_rise as rise_pairs, Gains};

@@ -1,3 +1,4 @@
+//! Whether the payload of an item may still be put back.
 ghost use Rattle.std.specs.Prelude.{◌≡◌, drop, false, Some, None, slice_get};
 ghost use Rattle.delf_model.specs.Payloads.{keeps_payload as keeps_payload_of, is_purged as is_purged_in};
 ghost use Rattle.delf_model.specs.Report.{was_put as was_put_back};

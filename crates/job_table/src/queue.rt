@@ -1,3 +1,4 @@
+//! A queue of jobs by rank.
 ghost use Rattle.std.specs.Prelude.{◌≡◌, ◌+◌, ◌<◌, ◌≤◌, None, Some, cond, nat_eq, false, true, length, slice_get, slice_index_or, ℕ, IsTrue};
 ghost use Rattle.std.specs.VecDeque.{deque_capacity};
 ghost use Rattle.job_table.specs.Apart.{are_apart};

@@ -1,3 +1,4 @@
+//! The restored jobs that still have items to put back.
 ghost use Rattle.std.specs.Prelude.{◌≡◌, ◌+◌, ◌<◌, ◌≤◌, [], None, Some, cond, nat_eq, OnOk, length, slice_get, option_map, ℕ, IsTrue, ◌^◌};
 ghost use Rattle.std.specs.VecDeque.{deque_capacity};
 ghost use Rattle.job_table.specs.Apart.{are_apart};

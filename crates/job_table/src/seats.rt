@@ -1,3 +1,4 @@
+//! The seats of the entries that calls made, counted.
 ghost use Rattle.std.specs.Prelude.{◌≡◌, ◌+◌, ◌<◌, ◌≤◌, ◌^◌, ◌++◌, ◌∷◌, [], nat_eq, OnOk, length, count_by, max};
 ghost use Rattle.job_table.specs.Table.{greatest};
 

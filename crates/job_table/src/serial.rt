@@ -1,3 +1,4 @@
+//! The first step of the serial order.
 ghost use Rattle.std.specs.Prelude.{◌≡◌, ◌<◌, ◌≤◌, ◌^◌, None, Some, ℕ, nat_lt, ◌+◌, find, false, slice_index_or, IsTrue};
 ghost use Rattle.std.specs.List.{position};
 ghost use Rattle.delf_model.specs.State.{State};

@@ -1,5 +1,6 @@
+//! Between which numbers the items of a job stand.
 ghost use Rattle.std.specs.Prelude.{◌≡◌, ◌+◌, ◌<◌, ◌^◌};
-ghost use Rattle.job_table.specs.Spans.{no_span as empty_span, grown_span, handled_span};
+ghost use Rattle.job_table.specs.Spans.{no_span as empty_span, grown_span};
 
 /// Where the items of a job stand: the least of their numbers, a number past all of them, and one past those of its
 /// unhandled ones.
@@ -30,17 +31,5 @@ pub fn grown(span: &Span, n: u32) -> Span
         first: if span.end == 0 { n } else { span.first },
         end: n + 1,
         left: n + 1,
-    }
-}
-
-/// The span after the item with this number is handled.
-pub fn handled(span: &Span, i: u32) -> Span
-    requires { i + 1 < 2 ^ 32 }
-    ensures { result ≡ handled_span i span.now }
-{
-    Span {
-        first: span.first,
-        end: span.end,
-        left: if i + 1 == span.left { i } else { span.left },
     }
 }

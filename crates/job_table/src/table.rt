@@ -1,4 +1,5 @@
-ghost use Rattle.std.specs.Prelude.{◌≡◌, ◌+◌, ◌-◌, ◌<◌, ◌≤◌, ◌++◌, ◌∷◌, [], ℕ, true, false, OnOk, length, nat_eq, count_by, Some};
+//! The table with its readings: the public struct.
+ghost use Rattle.std.specs.Prelude.{◌≡◌, ◌+◌, ◌-◌, ◌<◌, ◌≤◌, ◌++◌, ◌∷◌, [], ℕ, true, false, OnOk, length, nat_eq, count_by, Some, slice_get, take};
 ghost use Rattle.delf_model.specs.RuleSet.{RuleSet};
 ghost use Rattle.delf_model.specs.Graph.{Graph};
 ghost use Rattle.delf_model.specs.State.{State, start, owner as owner_of, owned as owned_of, find_job, job_row, left};
@@ -9,7 +10,7 @@ ghost use Rattle.delf_model.specs.Legal.{is_legal};
 ghost use Rattle.delf_model.specs.Order.{is_held as is_held_in};
 ghost use Rattle.job_table.specs.Parts.{row_of};
 ghost use Rattle.job_table.specs.Items.{restored_status, is_unhandled_of};
-ghost use Rattle.delf_model.specs.Report.{status_of_row, job_line, status as status_of_job, job_at as line_at, listed_at as listed_of, items_of};
+ghost use Rattle.delf_model.specs.Report.{status_of_row, job_line, status as status_of_job, job_at as line_at, listed_at as listed_of, listed_from, items_of};
 ghost use Rattle.job_table.specs.Table.{IsTableOf, IsGraphOf, MayApply, item_at as item_of, restored_of, last_erasure as last_erasure_of, top_seat as greatest_seat, is_erasing, given_up};
 ghost use Rattle.job_table.specs.Next.{IsSerial, IsFreeNext};
 
@@ -46,13 +47,14 @@ pub struct JobTable {
 impl Model for JobTable {
     ghost use Rattle.job_table.specs.Table.{Table};
     ghost use Rattle.job_table.specs.Fits.{Fits};
+    ghost use Rattle.job_table.specs.Fresh.{FreshOwn};
     ghost use Rattle.job_table.specs.Restoring.{AreRestoring};
 
     ghost Value = { Table };
 
     ghost view = { λ t. record { len = t.len; moment = t.moment; owed = t.owed; owners = t.owners.list; items = t.items.list; jobs = t.jobs.list; seats = t.seats.list; held = t.claims.list; spare = t.spare } };
 
-    ghost invariant = { λ t. Fits t.len t.owed t.spare t.owners t.items t.jobs t.seats t.claims t.restoring × AreRestoring t.jobs.list t.items.list t.restoring.list };
+    ghost invariant = { λ t. Fits t.len t.owed t.spare t.owners t.items t.jobs t.seats t.claims t.restoring × AreRestoring t.jobs.list t.items.list t.restoring.list × FreshOwn t.jobs.list t.owners.list };
 }
 
 impl JobTable {
@@ -263,6 +265,14 @@ impl JobTable {
         ensures { (s : State) → IsTableOf s self.now → result ≡ listed_of s job i }
     {
         self.items.listed_at(job, i)
+    }
+
+    /// The listed item of the job with the greatest number below this one. All listed items of a job, each read below the
+    /// one before, cost one pass over where its items stand.
+    pub fn listed_before(&self, job: Job, below: u32) -> Option<Listed>
+        ensures { (s : State) → IsTableOf s self.now → result ≡ slice_get (listed_from job 0 (take below s.items)) 0 }
+    {
+        self.items.listed_before(job, below)
     }
 
     /// The status of the job with this row.

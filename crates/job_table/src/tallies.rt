@@ -1,3 +1,4 @@
+//! What the items of a job come to.
 ghost use Rattle.std.specs.Prelude.{◌≡◌, cond};
 ghost use Rattle.job_table.specs.Parts.{logged_of};
 ghost use Rattle.job_table.specs.Tallies.{share_of as share_of_logged, tally_sum, no_tally as empty_tally, Fits as FitsTally, Within as WithinTally, tally_rest};

@@ -1,4 +1,5 @@
-ghost use Rattle.std.specs.Prelude.{◌≡◌, ◌≤◌, None, cond, nat_eq, length, ℕ, IsTrue};
+//! The jobs that wait for their window, as they erase and are purged.
+ghost use Rattle.std.specs.Prelude.{◌≡◌, ◌+◌, ◌≤◌, None, cond, nat_eq, length, ℕ, IsTrue};
 ghost use Rattle.std.specs.VecDeque.{deque_capacity};
 ghost use Rattle.job_table.specs.Apart.{are_apart};
 ghost use Rattle.job_table.specs.Owning.{pairs_rise};
@@ -15,21 +16,23 @@ pub fn wait_anew(waiting: &mut VecDeque<(Job, Moment)>, row: &Row, moment: Momen
     requires rise { IsTrue (pairs_rise waiting.old.items) }
     requires apart { IsTrue (are_apart waiting.old.items) }
     requires found { owner_among waiting.old.items row.now.start ≡ waits_of row.now }
+    requires room { length waiting.old.items + 1 ≤ deque_capacity waiting.old }
     ensures rise { IsTrue (pairs_rise waiting.new.items) }
     ensures apart { IsTrue (are_apart waiting.new.items) }
     ensures value { (other : ℕ) → owner_among waiting.new.items other ≡ cond (nat_eq other row.now.start) (waits_of (erased_row moment row.now)) (owner_among waiting.old.items other) }
-    ensures len { length waiting.new.items ≡ length waiting.old.items }
+    ensures len { length waiting.new.items ≤ length waiting.old.items + 1 }
     ensures capacity { deque_capacity waiting.old ≤ deque_capacity waiting.new }
 {
-    let last = row.last.unwrap_or(0);
-    if row.purged || last == moment {
+    if row.purged {
         return;
     }
-    leave(waiting, row.start, last);
+    if let Some(last) = row.last {
+        leave(waiting, row.start, last);
+    }
     enter(waiting, row.start, moment);
 }
 
-/// The job with this row is purged, and waits no more.
+/// The job with this row is purged, and waits no more, if it did.
 pub fn leave_purged(waiting: &mut VecDeque<(Job, Moment)>, row: &Row)
     requires rise { IsTrue (pairs_rise waiting.old.items) }
     requires apart { IsTrue (are_apart waiting.old.items) }
@@ -43,5 +46,7 @@ pub fn leave_purged(waiting: &mut VecDeque<(Job, Moment)>, row: &Row)
     if row.purged {
         return;
     }
-    leave(waiting, row.start, row.last.unwrap_or(0));
+    if let Some(last) = row.last {
+        leave(waiting, row.start, last);
+    }
 }

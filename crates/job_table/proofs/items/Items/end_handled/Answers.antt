@@ -26,3 +26,6 @@ returns c =
     let spans : Spans c.args.self.now.list c.args.job c.span-span.result = subst (λ (n : ℕ). Spans c.args.self.now.list n c.span-span.result) c.job.view_is c.span-span.ensures.spans in
     all_handled (is_handled_end c.args.job c.args.id c.args.birth) c.args.self.now.list c.items.i c.span-span.result.first c.items.invariant.later
     (ends_before c.args.self.now.list c.args.job c.span-span.result spans c.args.id c.args.birth) (omega arith)
+
+pub returns-then-not-has_open_end : goal.returns-then-not-has_open_end
+returns-then-not-has_open_end c = sym (c.has_open_end.ensures c.if-not-has_open_end.true c.args.id)

@@ -1,8 +1,11 @@
-use Rattle.job_table.specs.Spans.{handled_span}
+use Rattle.job_table.proofs.OpenEnds.{handled_ends, one_open}
 use Rattle.job_table.proofs.SpansOf.{handled_spans}
 use Rattle.job_table.proofs.Places.{map_length}
-use Rattle.std.proofs.Common.{set, Some, ◌≡◌, ◌<◌, length, map, refl, sym, ap, ◌∙◌, arith}
+use Rattle.std.proofs.Common.{set, List, Some, ◌≡◌, ◌<◌, length, map, refl, sym, ap, subst, ◌∙◌, arith}
 use Rattle.job_table.specs.Parts.{ItemPart, logged_of, handled_of}
+use Rattle.delf_model.specs.State.{Logged}
+use Rattle.delf_model.specs.Step.{handled_at}
+use Rattle.job_table.specs.Spans.{Spans, Within}
 use Rattle.job_table.specs.Tallies.{tally_of, tally_sum}
 use Rattle.job_table.specs.declared.tallies.Tally.{Tally}
 use Rattle.std.proofs.lemmas.List.{length-set}
@@ -41,10 +44,31 @@ invariant_of-self c =
           ∙ handled_tally c.self.inside.items.items c.args.i c.job_of-job.result c.index.result.now c.args.how c.tally.result c.share_of.result c.share_of-2.result below c.index.ensures c.job_of-job.ensures
           (c.tally.ensures.value ∙ ap (tally_of c.job_of-job.result) list) c.share_of.ensures c.share_of-2.ensures)
           c.keep.ensures.value refl c.keep.ensures.spare (omega (arith, spare, c.requires)),
-      handled_spans (map logged_of c.self.inside.items.items) (map logged_of (set c.self.inside.items.items c.args.i (record { item = c.index.result.now.item; handled = Some c.args.how }))) (handled_of c.args.how) _ _ _ _ c.self.inside.spare c.job_of-job.result c.args.i c.handled-span.result c.self.invariant.1
+      handled_spans (map logged_of c.self.inside.items.items) (map logged_of (set c.self.inside.items.items c.args.i (record { item = c.index.result.now.item; handled = Some c.args.how }))) (handled_of c.args.how) _ _ _ _ c.self.inside.spare c.job_of-job.result c.args.i c.span_after-span.result c.self.invariant.1
           (handle_in c.self.inside.items.items (record { list = map logged_of c.self.inside.items.items; spare = c.self.inside.spare }) c.self.inside.spare c.args.i c.index.result.now c.args.how refl below c.index.ensures)
-          (omega (arith, below, map_length logged_of c.self.inside.items.items)) (c.handled-span.ensures ∙ ap (handled_span c.args.i) c.span_in.ensures) c.keep_span.ensures.value c.keep_span.ensures.spare (omega (arith, spare, c.requires)),
+          (omega (arith, below, map_length logged_of c.self.inside.items.items))
+          (subst (λ (l : List Logged). Spans (handled_at l c.args.i (handled_of c.args.how)) c.job_of-job.result c.span_after-span.result) list (c.span_after-span.ensures.spans (handled_of c.args.how)))
+          (subst (λ (l : List Logged). Within l c.span_after-span.result) list c.span_after-span.ensures.within) c.keep_span.ensures.value c.keep_span.ensures.spare (omega (arith, spare, c.requires)),
+      handled_ends c.self.inside.items.items c.args.i c.index.result.now below c.index.ensures _ _ c.self.inside.spare c.self.invariant.2
+          (map logged_of (set c.self.inside.items.items c.args.i (record { item = c.index.result.now.item; handled = Some c.args.how }))) (handled_of c.args.how) _ _
+          (handle_in c.self.inside.items.items (record { list = map logged_of c.self.inside.items.items; spare = c.self.inside.spare }) c.self.inside.spare c.args.i c.index.result.now c.args.how refl below c.index.ensures)
+          c.close.ensures.count c.close.ensures.spare (omega (arith, spare, c.requires)),
     )
+
+pub close-requires-clause-open : goal.close-requires-clause-open
+close-requires-clause-open c =
+    one_open c.self.inside.items.items c.args.i c.index.result.now (omega (arith, c.len.ensures, c.if-i-len.false)) c.index.ensures _ _ c.self.inside.spare c.self.invariant.2
+
+pub close-requires-clause-spare : goal.close-requires-clause-spare
+close-requires-clause-spare c =
+    let spare : c.self.inside.spare ≡ c.args.self.now.spare = ap (λ (m : ItemPart). m.spare) c.self.view_is in
+    omega (arith, spare, c.requires, c.self.invariant.2.ends_spare)
+
+pub span_after-span-requires-clause-fits : goal.span_after-span-requires-clause-fits
+span_after-span-requires-clause-fits c = omega (arith, c.len.ensures, c.if-i-len.false, c.self.invariant.0.fits)
+
+pub span_after-span-requires-clause-within : goal.span_after-span-requires-clause-within
+span_after-span-requires-clause-within c = omega (arith, c.len.ensures, c.if-i-len.false, kept_len c.self.inside.items.items c.args.self.now _ c.self.view_is)
 
 pub returns-clause-list : goal.returns-clause-list
 returns-clause-list c =

@@ -6,6 +6,7 @@ use Rattle.job_table.specs.Parts.{ItemPart, logged_of}
 use Rattle.job_table.specs.Tallies.{tally_of}
 use Rattle.job_table.proofs.Places.{map_length, map_push}
 use Rattle.job_table.specs.Spans.{grown_span}
+use Rattle.job_table.proofs.OpenEnds.{pushed_ends, ends_fit}
 use Rattle.job_table.proofs.SpansOf.{pushed_spans}
 use Rattle.job_table.proofs.Tallying.{tally_with, tally_fits, pushed_items_fit}
 use Rattle.job_table.proofs.items.Items.push.Goals as goal
@@ -29,4 +30,16 @@ invariant_of-self c =
       pushed_spans (map logged_of c.self.inside.items.items) (map logged_of c.push_reserved.new.self.items) (unhandled c.args.item) _ _ _ _ c.self.inside.spare c.job_of-job.result c.len.result c.grown-span.result c.self.invariant.1
           (ap (map logged_of) c.push_reserved.ensures.items ∙ map_push logged_of c.self.inside.items.items _) c.job_of-job.ensures (omega (arith, c.len.ensures, map_length logged_of c.self.inside.items.items))
           (c.grown-span.ensures ∙ ap (grown_span c.len.result) c.span_in.ensures) c.keep_span.ensures.value c.keep_span.ensures.spare (omega (arith, spare, c.requires.spare)),
+      pushed_ends (map logged_of c.self.inside.items.items) (map logged_of c.push_reserved.new.self.items) c.args.item _ _ _ _ c.self.inside.spare c.self.invariant.2
+          (ap (map logged_of) c.push_reserved.ensures.items ∙ map_push logged_of c.self.inside.items.items _) c.open.ensures.count c.open.ensures.spare (omega (arith, spare, c.requires.spare)),
     )
+
+pub open-requires-clause-spare : goal.open-requires-clause-spare
+open-requires-clause-spare c =
+    let spare : c.self.inside.spare ≡ c.args.self.now.spare = ap (λ (m : ItemPart). m.spare) c.self.view_is in
+    omega (arith, spare, c.requires.spare, c.self.invariant.2.ends_spare)
+
+pub open-requires-clause-fits : goal.open-requires-clause-fits
+open-requires-clause-fits c =
+    ends_fit (map logged_of c.self.inside.items.items) _ _ c.self.inside.spare c.self.invariant.2
+    (omega (arith, c.requires.fits, ap (λ (m : ItemPart). length m.list) c.self.view_is))

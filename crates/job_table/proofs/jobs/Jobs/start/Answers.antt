@@ -6,7 +6,7 @@ use Rattle.delf_model.specs.declared.ids.JobName.TheVariants.{Named, Expiry}
 use Rattle.job_table.specs.Parts.{JobPart, row_of}
 use Rattle.job_table.proofs.Naming.{started_fits}
 use Rattle.job_table.proofs.Places.{map_length}
-use Rattle.job_table.proofs.WaitingJobs.{free_to_wait, started_waits}
+use Rattle.job_table.proofs.WaitingJobs.{started_waits}
 use Rattle.job_table.proofs.jobs.Jobs.start.Goals as goal
 
 pub invariant_of-self : goal.invariant_of-self
@@ -18,11 +18,6 @@ invariant_of-self c =
           (λ k. c.note_name.ensures.named k ∙ ap (λ (n : ℕ). cond (same_name c.args.name (Named k)) (Some n) (get nat_eq c.self.inside.named k)) c.start.view_is)
           (λ k. c.note_name.ensures.expiries k ∙ ap (λ (n : ℕ). cond (same_name c.args.name (Expiry k)) (Some n) (get nat_eq c.self.inside.expiries k)) c.start.view_is)
           c.note_name.ensures.named_spare c.note_name.ensures.expiries_spare c.push_reserved.ensures.capacity,
-      started_waits c.self.inside.rows.items c.self.inside.waiting.items _ _ c.self.inside.spare c.self.invariant.1 c.push_reserved.new.self.items c.enter.new.queue.items c.args.self.now.list _ c.args.start _
-          (ap (λ (m : JobPart). m.list) c.self.view_is) c.requires.rise c.push_reserved.ensures.items refl refl c.enter.ensures.rise c.enter.ensures.apart c.enter.ensures.value c.enter.ensures.len c.enter.ensures.capacity
-          (omega (arith, c.requires.spare, spare)),
+      started_waits c.self.inside.rows.items c.self.inside.waiting.items _ _ c.self.inside.spare c.self.invariant.1 c.push_reserved.new.self.items c.args.self.now.list c.args.start _
+          (ap (λ (m : JobPart). m.list) c.self.view_is) c.requires.rise c.push_reserved.ensures.items refl refl,
     )
-
-pub enter-requires-clause-free : goal.enter-requires-clause-free
-enter-requires-clause-free c =
-    free_to_wait c.self.inside.rows.items c.self.inside.waiting.items _ _ _ c.self.invariant.1 c.args.self.now.list c.args.start (ap (λ (m : JobPart). m.list) c.self.view_is) c.requires.rise

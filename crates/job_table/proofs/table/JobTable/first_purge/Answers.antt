@@ -1,8 +1,9 @@
-use Rattle.std.proofs.Common.{◌∙◌, ap, sym, get_or}
+use Rattle.std.proofs.Common.{◌∙◌, ◌<◌, ap, sym, subst, get_or}
 use Rattle.std.specs.List.{position, list_any}
 use Rattle.job_table.specs.Waits.{has_waited}
 use Rattle.job_table.proofs.Purges.{none_over, front_over}
-use Rattle.job_table.specs.Table.{Table}
+use Rattle.job_table.specs.Fresh.{is_fresh}
+use Rattle.job_table.specs.Table.{Table, owned_among}
 use Rattle.job_table.specs.Serial.{purges_in}
 use Rattle.job_table.proofs.Firsts.{purge_found, purge_missing}
 use Rattle.job_table.proofs.table.JobTable.first_purge.Goals as goal
@@ -20,7 +21,8 @@ returns-in-None c =
 
 pub returns-then-not-has_waited : goal.returns-then-not-has_waited
 returns-then-not-has_waited c =
-    λ s h w. none_over s c.args.self.now.jobs c.args.window c.args.moment h.jobs w
+    λ s h w. none_over s c.args.self.now c.args.window c.args.moment h w
+    (λ job f. subst (λ (t : Table). 0 < owned_among t.owners job) c.self.view_is (c.self.invariant.2 job (ap (λ (t : Table). is_fresh t.jobs job) c.self.view_is ∙ f)))
     (ap (λ (t : Table). list_any (has_waited c.args.window c.args.moment) t.jobs) (sym c.self.view_is) ∙ c.has_waited.ensures c.if-not-has_waited.true)
 
 pub place_to_purge-requires : goal.place_to_purge-requires

@@ -21,4 +21,5 @@ invariant_of-self c = (
     held_len = omega (arith, ap (λ (l : List What). length l) c.give_up.ensures.list, given_up_len c.args.step.now c.self.inside.claims.list, c.self.invariant.0.held_len);
   },
   c.self.invariant.1,
+  c.self.invariant.2,
 )
