@@ -1,16 +1,14 @@
 -- That a run which met no fault ends well, from the causes of all other ends.
-use Rattle.std.proofs.Common.{◌≡◌, ℕ, Bool, false, Option, Some, None, List, refl, sym, subst, ap, ◌∙◌, arith}
+use Rattle.std.proofs.Common.{◌≡◌, ℕ, Bool, Option, Some, None, List, refl, sym, subst, ◌∙◌}
 use Rattle.delf_disk.specs.declared.area.Area.{Area}
 use Rattle.delf_disk.specs.Areas.{Areas}
 use Rattle.delf_model.specs.RuleSet.{RuleSet}
 use Rattle.store_laws.specs.Stores.{StandBut}
-use Rattle.documents.specs.declared.document.Document.{Document}
 use Rattle.script_runner.specs.declared.status.Status.{Status}
 use Rattle.script_runner.specs.declared.status.Status.TheVariants.{Done, Usage, BadDocument, ReadFault, WriteFault, OutOfMemory, Down, BadStore}
 use Rattle.documents.specs.declared.words.Request.{Request}
 use Rattle.documents.specs.declared.words.Request.TheVariants.{Run, Check, Load}
 use Rattle.script_runner.specs.Complete.{IsQuiet, IsStore, EndsWell}
-use Rattle.documents.specs.Documents.{IsDocument}
 use Rattle.documents.proofs.Once.{document_rules, no_fault}
 use Rattle.script_runner.specs.Outcomes.{RunCause, IsBad}
 

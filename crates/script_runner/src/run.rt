@@ -1,7 +1,6 @@
 //! A run: the words, the source, the store, its commands one by one, and the last settling.
 ghost use Rattle.std.specs.Prelude.{◌≡◌, ◌++◌, ◌⊎◌, ◌<◌, ◌≤◌, ◌^◌, ℕ, List, true, false, IsTrue, IfOk, IfErr, map, length, string_bytes};
 ghost use Rattle.std.specs.List.{All};
-ghost use Rattle.delf_disk.specs.Areas.{Areas};
 ghost use Rattle.delf_disk.specs.Causes.{Rose as DiskRose};
 ghost use Rattle.delf_disk.specs.Plain.{Plain, SameKind, SameTelling};
 ghost use Rattle.delf_io.specs.Faults.{Rose};
@@ -11,7 +10,6 @@ ghost use Rattle.delf_model.specs.Sound.{Sound};
 ghost use Rattle.job_report.specs.Texts.{opened_text};
 ghost use Rattle.delf_model.specs.Payloads.{Payloads};
 ghost use Rattle.script_runner.specs.Complete.{IsQuiet, IsStore, EndsWell};
-ghost use Rattle.documents.specs.Documents.{IsDocument};
 ghost use Rattle.script_runner.specs.Endings.{UnopenedText, UnopenedCause, DownText, DownCause, EndText, EndCause};
 ghost use Rattle.script_runner.specs.LoadEnds.{LoadText};
 ghost use Rattle.script_runner.specs.Openings.{MayGive, StopCounts, Stops};
