@@ -26,7 +26,8 @@ use Rattle.delf_book.specs.Books.{Booked, state_in, Grew, Accepted, Interrupts, 
 use Rattle.job_report.specs.Texts.{unlinked_text, refusal_text, down_text}
 use Rattle.script_runner.specs.Lines.{receipt_text}
 use Rattle.script_runner.specs.Names.{IsNumberedRefusal}
-use Rattle.script_runner.specs.Serial.{answer, answer_text, accepted_text, after_answer, edge_name, started_name, refusal_name, refused_down, Submits}
+use Rattle.script_runner.specs.Serial.{answer, answer_text, accepted_text, after_answer, started_name, refusal_name, refused_down, Submits}
+use Rattle.documents.specs.Names.{edge_name}
 use Rattle.script_runner.specs.Serial as serial
 use Rattle.script_runner.specs.Standing.{Carried, HaltedAt, Falls}
 use Rattle.script_runner.specs.Worlds.{World, StandsOn, IsHeld, world_of, state_of, now_of, fallen, interrupted}

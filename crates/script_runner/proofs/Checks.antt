@@ -1,31 +1,28 @@
 -- What a check leaves in the sink and why it ended: from the parts of the run to all of it.
 use Rattle.std.proofs.Common.{◌≡◌, ℕ, ◌<◌, Bool, IsTrue, List, [], ◌++◌, length, refl, sym, subst, inl, inr}
 use Rattle.script_lang.specs.declared.fault.DocumentFault.{DocumentFault}
-use Rattle.script_lang.specs.declared.fault.DocumentFault.TheVariants as told
+use Rattle.documents.specs.Checks.{ChecksAs}
+use Rattle.documents.specs.Documents.{IsToldFault}
+use Rattle.documents.proofs.ReadBytes.{all_read}
 use Rattle.script_runner.specs.declared.status.Status.{Status}
 use Rattle.script_runner.specs.declared.status.Status.TheVariants.{Done, BadDocument, WriteFault, OutOfMemory}
-use Rattle.script_runner.specs.Documents.{IsFault, IsToldFault}
-use Rattle.script_runner.specs.Outcomes.{FaultText, FaultCause}
-use Rattle.script_runner.specs.Checks.{CheckedText, CheckedCause, CheckText, CheckCause, ChecksAs, IsRead}
-use Rattle.script_runner.proofs.ReadBytes.{all_read, lift_fault}
+use Rattle.script_runner.specs.Checks.{CheckedText, CheckedCause, CheckText, CheckCause}
+use Rattle.script_runner.specs.Faults.{FaultText, FaultCause}
+use Rattle.script_runner.proofs.Sources.{refused_by, lift_of, lift_tells, lift_cuts, lift_has}
 
 -- a fault that was told
-
-told_by : (bytes : List ℕ) (fault : DocumentFault) (line : ℕ) (text : List ℕ) → fault ≡ told.Bad line text → IsToldFault bytes fault →
-    IsFault bytes (record { line = line; text = text })
-told_by bytes fault line text is first = subst (IsToldFault bytes) is first
 
 pub fault_text_checked : (bytes : List ℕ) (fault : DocumentFault) (before after : List ℕ) (status : Status) → IsToldFault bytes fault →
     FaultText fault before after status → CheckedText bytes before after status
 fault_text_checked bytes fault before after (BadDocument line) first text = record {
   fault = record { line = line; text = text.0 };
-  first = told_by bytes fault line text.0 text.1 first;
+  refused = refused_by bytes fault line text.0 text.1 first;
   line_is = refl;
-  held = text.2;
+  text = text.2;
 }
 fault_text_checked bytes fault before after (WriteFault done) first text = inr (record {
   fault = record { line = text.0; text = text.1.0 };
-  first = told_by bytes fault text.0 text.1.0 text.1.1 first;
+  refused = refused_by bytes fault text.0 text.1.0 text.1.1 first;
   cut = text.1.2;
 })
 fault_text_checked bytes fault before after (OutOfMemory done) first text = text
@@ -35,7 +32,7 @@ pub fault_cause_checked : (bytes : List ℕ) (fault : DocumentFault) (write_rose
     FaultCause fault write_rose status → CheckedCause bytes write_rose status
 fault_cause_checked bytes fault write_rose (BadDocument line) first cause = record {
   fault = record { line = line; text = cause.0 };
-  first = told_by bytes fault line cause.0 cause.1 first;
+  refused = refused_by bytes fault line cause.0 cause.1 first;
   line_is = refl;
 }
 fault_cause_checked bytes fault write_rose (WriteFault done) first cause = cause
@@ -55,28 +52,18 @@ check_text told left read rest before after Done whole short text = λ t. record
   checks = lift_checks left read rest text.text (whole t) (short t) text.checks;
   held = text.held;
 }
-check_text told left read rest before after (BadDocument line) whole short text = λ t. record {
-  fault = text.fault;
-  first = lift_fault left read rest text.fault (whole t) (short t) text.first;
-  line_is = text.line_is;
-  held = text.held;
-}
+check_text told left read rest before after (BadDocument line) whole short text = λ t. lift_tells left read rest line before after (whole t) (short t) text
 check_text told left read rest before after (WriteFault done) whole short text = λ t. elim text [
   | inl x ↦ inl (record { text = x.text; checks = lift_checks left read rest x.text (whole t) (short t) x.checks; cut = x.cut })
-  | inr x ↦ inr (record { fault = x.fault; first = lift_fault left read rest x.fault (whole t) (short t) x.first; cut = x.cut })
+  | inr x ↦ inr (lift_cuts left read rest before after done (whole t) (short t) x)
 ]
 check_text told left read rest before after (OutOfMemory done) whole short text = text
 check_text told left read rest before after other whole short text = absurd text
 
 pub check_cause : (told : Bool) (left read rest : List ℕ) (read_rose write_rose : Type 0) (status : Status) → (IsTrue told → left ≡ read ++ rest) →
     (IsTrue told → length read < 16777217 → rest ≡ []) → CheckedCause read write_rose status → CheckCause told left read_rose write_rose status
-check_cause told left read rest read_rose write_rose Done whole short cause =
-    λ t. subst IsRead (sym (all_read left read rest (whole t) (short t) cause.read.has.size)) cause
-check_cause told left read rest read_rose write_rose (BadDocument line) whole short cause = λ t. record {
-  fault = cause.fault;
-  first = lift_fault left read rest cause.fault (whole t) (short t) cause.first;
-  line_is = cause.line_is;
-}
+check_cause told left read rest read_rose write_rose Done whole short cause = λ t. lift_of left read rest _ (whole t) (short t) cause
+check_cause told left read rest read_rose write_rose (BadDocument line) whole short cause = λ t. lift_has left read rest line (whole t) (short t) cause
 check_cause told left read rest read_rose write_rose (WriteFault done) whole short cause = cause
 check_cause told left read rest read_rose write_rose (OutOfMemory done) whole short cause = cause
 check_cause told left read rest read_rose write_rose other whole short cause = absurd cause

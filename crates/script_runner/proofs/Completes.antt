@@ -1,51 +1,16 @@
 -- That a run which met no fault ends well, from the causes of all other ends.
-use Rattle.std.proofs.Common.{◌≡◌, ℕ, Bool, false, Option, Some, None, List, refl, sym, subst, ap, ◌∙◌, arith}
-use Rattle.std.specs.Prelude.{Ok}
-use Rattle.std.specs.Str.Lines.{lines}
+use Rattle.std.proofs.Common.{◌≡◌, ℕ, Bool, Option, Some, None, List, refl, sym, subst, ◌∙◌}
 use Rattle.delf_disk.specs.declared.area.Area.{Area}
 use Rattle.delf_disk.specs.Areas.{Areas}
 use Rattle.delf_model.specs.RuleSet.{RuleSet}
-use Rattle.delf_model.specs.Checked.{IsChecked, numbered}
-use Rattle.delf_model.specs.declared.schema.Schema.{Schema}
-use Rattle.delf_model.proofs.CheckedLemmas.{IsFirstBroken-refutes}
-use Rattle.schema_lang.specs.Grammar as grammar
-use Rattle.script_lang.specs.Scripts.{Fault, script_of}
 use Rattle.store_laws.specs.Stores.{StandBut}
-use Rattle.script_runner.specs.declared.document.Document.{Document}
 use Rattle.script_runner.specs.declared.status.Status.{Status}
 use Rattle.script_runner.specs.declared.status.Status.TheVariants.{Done, Usage, BadDocument, ReadFault, WriteFault, OutOfMemory, Down, BadStore}
-use Rattle.script_runner.specs.declared.words.Request.{Request}
-use Rattle.script_runner.specs.declared.words.Request.TheVariants.{Run, Check, Load}
+use Rattle.documents.specs.declared.words.Request.{Request}
+use Rattle.documents.specs.declared.words.Request.TheVariants.{Run, Check, Load}
 use Rattle.script_runner.specs.Complete.{IsQuiet, IsStore, EndsWell}
-use Rattle.script_runner.specs.Documents.{IsDocument, IsFault, TooLong, InPart, InCheck, InScript}
+use Rattle.documents.proofs.Once.{document_rules, no_fault}
 use Rattle.script_runner.specs.Outcomes.{RunCause, IsBad}
-
--- one document, or a fault
-
-same_part : (bytes : List ℕ) (a b : grammar.Part) → grammar.part_of (lines bytes) ≡ Ok a → grammar.part_of (lines bytes) ≡ Ok b → a ≡ b
-same_part bytes a b first second = cc (first, second)
-
-document_rules : (bytes : List ℕ) (a b : Document) → IsDocument bytes a → IsDocument bytes b → a.rules ≡ b.rules
-document_rules bytes a b first second =
-    let parts : first.part ≡ second.part = same_part bytes first.part second.part first.has.spelled second.has.spelled in
-    let schemas : a.schema ≡ b.schema = sym first.schema ∙ ap (λ (p : grammar.Part). p.schema) parts ∙ second.schema in
-    first.rules ∙ ap numbered schemas ∙ sym second.rules
-
-no_fault : (bytes : List ℕ) (document : Document) (fault : Fault) → IsDocument bytes document → IsFault bytes fault → ⊥
-no_fault bytes document fault read (TooLong long is) = absurd (let short = read.has.size in omega (arith, short))
-no_fault bytes document fault read (InPart found size refused is) =
-    let spelled = read.has.spelled in absurd (cc (spelled, refused))
-no_fault bytes document fault read (InCheck part broken has first is) =
-    let parts : read.part ≡ part = same_part bytes read.part part read.has.spelled has.spelled in
-    let schemas : document.schema ≡ part.schema = sym read.schema ∙ ap (λ (p : grammar.Part). p.schema) parts in
-    IsFirstBroken-refutes part.schema broken first (subst IsChecked schemas read.checked)
-no_fault bytes document fault read (InScript part has checked refused) =
-    let parts : read.part ≡ part = same_part bytes read.part part read.has.spelled has.spelled in
-    let schemas : document.schema ≡ part.schema = sym read.schema ∙ ap (λ (p : grammar.Part). p.schema) parts in
-    let script : script_of part.schema false part.rest part.next ≡ Ok document.commands =
-    subst (λ (p : grammar.Part). script_of p.schema false p.rest p.next ≡ Ok document.commands) parts
-    (subst (λ (s : Schema). script_of s false read.part.rest read.part.next ≡ Ok document.commands) (sym read.schema) read.script) in
-    absurd (cc (script, refused))
 
 not_bad : (plain : Type 0) (rules other : RuleSet) (seen : Areas) (area : Area) (at : ℕ) → rules ≡ other → plain → IsStore other seen → (plain → IsBad rules seen area at) → ⊥
 not_bad plain rules other seen area at same is store bad =
@@ -75,7 +40,7 @@ module _ (plain : Type 0) (seen : Areas) (told : Bool) (left : List ℕ) (read_r
       absurd (not_bad plain of.document.rules document.rules seen area at (document_rules left of.document document of.read read) store.0 store.1 of.holds)
   ends_well (Some Check) Done cause = λ document is read. tt
   ends_well (Some Check) Usage cause = λ document is read. cause
-  ends_well (Some Check) (BadDocument line) cause = λ document is read. let has = cause is in absurd (no_fault left document has.fault read has.first)
+  ends_well (Some Check) (BadDocument line) cause = λ document is read. let has = cause is in absurd (no_fault left document has.fault read has.refused)
   ends_well (Some Check) ReadFault cause = λ document is read. absurd (quiet.source cause)
   ends_well (Some Check) (WriteFault done) cause = λ document is read. absurd (quiet.sink cause.1)
   ends_well (Some Check) (OutOfMemory done) cause = λ document is read. tt

@@ -11,7 +11,7 @@ use Rattle.job_report.specs.Texts.{down_text}
 use Rattle.script_runner.specs.declared.status.Status.{Status}
 use Rattle.script_runner.specs.declared.status.Status.TheVariants.{Done, Usage, BadDocument, ReadFault, WriteFault, OutOfMemory, Down, BadStore}
 use Rattle.script_runner.specs.Endings.{Settles, StaysDown, FallsAtEnd, EndText, DownText, DownCause}
-use Rattle.script_runner.specs.Outcomes.{IsCut}
+use Rattle.documents.specs.Cuts.{IsCut}
 use Rattle.script_runner.specs.Worlds.{World, StandsOn, world_of}
 use Rattle.script_runner.proofs.Standing.{rest_held}
 

@@ -4,11 +4,9 @@ pub mod Checks
 pub mod Completes
 pub mod Counts
 pub mod Crashes
-pub mod Documents
 pub mod Endings
 pub mod Ends
 pub mod Finds
-pub mod Generated
 pub mod Keeping
 pub mod LoadSteps
 pub mod Loops
@@ -16,15 +14,9 @@ pub mod Moves
 pub mod Nameless
 pub mod Numbered
 pub mod Openings
-pub mod ReadBytes
 pub mod Refusals
-pub mod Requests
-pub mod Restored
-pub mod Routes
 pub mod Sources
 pub mod Standing
 pub mod Steps
 pub mod Texts
 pub mod Told
-pub mod Turns
-pub mod Unblocked

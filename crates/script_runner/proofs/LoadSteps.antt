@@ -17,21 +17,23 @@ use Rattle.delf_book.specs.Books.{Booked, OnlyRig, WasDown, state_in}
 use Rattle.delf_recovery.specs.declared.fault.OpenFault.{OpenFault}
 use Rattle.delf_recovery.specs.declared.fault.OpenFault.TheVariants as fault
 use Rattle.job_report.specs.Texts.{down_text}
-use Rattle.script_runner.specs.declared.document.Document.{Document}
+use Rattle.documents.specs.declared.document.Document.{Document}
 use Rattle.script_runner.specs.declared.status.Status.{Status}
 use Rattle.script_runner.specs.declared.status.Status.TheVariants.{Done, Usage, BadDocument, ReadFault, WriteFault, OutOfMemory, Down, BadStore}
 use Rattle.script_runner.specs.Endings.{Settles, DownText, DownCause, EndCause, UnopenedCause}
 use Rattle.script_runner.specs.LoadEnds.{StopsDown, LoadEndText, PutsLine, LoadRan, LoadScriptText}
-use Rattle.script_runner.specs.Loads.{IsLoad, IsStill, loaded_line}
+use Rattle.documents.specs.Loads.{IsLoad, IsStill}
+use Rattle.script_runner.specs.LoadEnds.{loaded_line}
 use Rattle.script_runner.specs.Openings.{StopCounts}
 use Rattle.script_runner.specs.Orders.{Gives}
-use Rattle.script_runner.specs.Outcomes.{IsCut, LoadCause, LoadedText, AsksOnce, Untouched}
+use Rattle.documents.specs.Cuts.{IsCut}
+use Rattle.script_runner.specs.Outcomes.{LoadCause, LoadedText, AsksOnce, Untouched}
 use Rattle.script_runner.specs.Standing.{Falls, Carried, IsServed, Leads}
 use Rattle.script_runner.specs.Worlds.{World, StandsOn, IsHeld, state_of, world_of}
 use Rattle.script_runner.proofs.Causes.{rose_from, rose_to}
 use Rattle.script_runner.proofs.Endings.{settled_end, down_end, fell_end}
 use Rattle.script_runner.proofs.Ends.{none_reached, more_reached}
-use Rattle.script_runner.proofs.Loops.{take_past}
+use Rattle.documents.proofs.Places.{take_past}
 use Rattle.script_runner.proofs.Standing.{rest_held}
 use Rattle.script_runner.proofs.Texts.{ran_of}
 

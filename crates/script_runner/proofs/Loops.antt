@@ -6,6 +6,7 @@ use Rattle.std.specs.Prelude.{find, map, slice_get, option_to_list}
 use Rattle.delf_model.specs.declared.call.JobLine.{JobLine}
 use Rattle.delf_model.specs.State.{State, JobRow, job_row, starts_at}
 use Rattle.delf_model.specs.Report.{job_line, job_at, line_of_row}
+use Rattle.documents.proofs.Places.{slice_past, take_past}
 
 -- an element more, known by its place
 
@@ -16,18 +17,6 @@ slice_suc (y ∷ ys) (suc i) x is = ap (λ (zs : List _). y ∷ zs) (slice_suc y
 
 slice_more : {A : Type 0} (xs : List A) (i : ℕ) (x : A) → slice_get xs i ≡ Some x → take (i + 1) xs ≡ take i xs ++ x ∷ []
 slice_more xs i x is = ap (λ (n : ℕ). take n xs) (add-one i) ∙ slice_suc xs i x is
-
-pub slice_past : {A : Type 0} (xs : List A) (i : ℕ) → slice_get xs i ≡ None → take i xs ≡ xs
-slice_past [] zero is = refl
-slice_past [] (suc i) is = refl
-slice_past (y ∷ ys) zero is = absurd (cc is)
-slice_past (y ∷ ys) (suc i) is = ap (λ (zs : List _). y ∷ zs) (slice_past ys i is)
-
-pub take_past : {A : Type 0} (xs : List A) (n : ℕ) → length xs ≤ n → take n xs ≡ xs
-take_past [] zero is = refl
-take_past [] (suc n) is = refl
-take_past (y ∷ ys) zero is = absurd (omega arith)
-take_past (y ∷ ys) (suc n) is = ap (λ (zs : List _). y ∷ zs) (take_past ys n (omega arith))
 
 flat_map-snoc : {A : Type 0} (f : A → List ℕ) (xs : List A) (x : A) → flat_map f (xs ++ x ∷ []) ≡ flat_map f xs ++ f x
 flat_map-snoc f xs x = sym (flat_map_more f [] xs x)

@@ -7,16 +7,18 @@ use Rattle.script_lang.specs.declared.fault.DocumentFault.{DocumentFault}
 use Rattle.script_lang.specs.declared.fault.DocumentFault.TheVariants as told
 use Rattle.script_runner.specs.declared.status.Status.{Status}
 use Rattle.script_runner.specs.declared.status.Status.TheVariants.{Done, Usage, BadDocument, ReadFault, WriteFault, OutOfMemory, Down, BadStore}
-use Rattle.script_runner.specs.declared.document.Document.{Document}
-use Rattle.script_runner.specs.Documents.{IsDocument, IsFault, IsToldFault}
-use Rattle.script_runner.proofs.ReadBytes.{all_read, lift_fault}
-use Rattle.script_runner.specs.Outcomes.{OfDocument, TellsFault, CutsFault, HasFault, FaultText, FaultCause, BytesText, BytesCause, SourceText, SourceCause, ScriptCause, OrdersOf, OrdersMade, Untouched, ReadsAll}
+use Rattle.documents.specs.declared.document.Document.{Document}
+use Rattle.documents.specs.Documents.{IsDocument, IsFault, IsToldFault}
+use Rattle.documents.proofs.ReadBytes.{all_read, lift_fault}
+use Rattle.documents.specs.Documents.{OfDocument, HasFault}
+use Rattle.script_runner.specs.Faults.{TellsFault, CutsFault, FaultText, FaultCause}
+use Rattle.script_runner.specs.Outcomes.{BytesText, BytesCause, SourceText, SourceCause, ScriptCause, OrdersOf, OrdersMade, Untouched, ReadsAll}
 
-lift_of : (left read rest : List ℕ) (P : Document → Type 0) → left ≡ read ++ rest → (length read < 16777217 → rest ≡ []) → OfDocument read P → OfDocument left P
+pub lift_of : (left read rest : List ℕ) (P : Document → Type 0) → left ≡ read ++ rest → (length read < 16777217 → rest ≡ []) → OfDocument read P → OfDocument left P
 lift_of left read rest P whole short of =
     subst (λ (t : List ℕ). OfDocument t P) (sym (all_read left read rest whole short of.read.has.size)) of
 
-lift_tells : (left read rest : List ℕ) (line : ℕ) (before after : List ℕ) → left ≡ read ++ rest → (length read < 16777217 → rest ≡ []) → TellsFault read line before after → TellsFault left line before after
+pub lift_tells : (left read rest : List ℕ) (line : ℕ) (before after : List ℕ) → left ≡ read ++ rest → (length read < 16777217 → rest ≡ []) → TellsFault read line before after → TellsFault left line before after
 lift_tells left read rest line before after whole short tells = record {
   fault = tells.fault;
   refused = lift_fault left read rest tells.fault whole short tells.refused;
@@ -24,14 +26,14 @@ lift_tells left read rest line before after whole short tells = record {
   text = tells.text;
 }
 
-lift_cuts : (left read rest before after : List ℕ) (done : ℕ) → left ≡ read ++ rest → (length read < 16777217 → rest ≡ []) → CutsFault read before after done → CutsFault left before after done
+pub lift_cuts : (left read rest before after : List ℕ) (done : ℕ) → left ≡ read ++ rest → (length read < 16777217 → rest ≡ []) → CutsFault read before after done → CutsFault left before after done
 lift_cuts left read rest before after done whole short cuts = record {
   fault = cuts.fault;
   refused = lift_fault left read rest cuts.fault whole short cuts.refused;
   cut = cuts.cut;
 }
 
-lift_has : (left read rest : List ℕ) (line : ℕ) → left ≡ read ++ rest → (length read < 16777217 → rest ≡ []) → HasFault read line → HasFault left line
+pub lift_has : (left read rest : List ℕ) (line : ℕ) → left ≡ read ++ rest → (length read < 16777217 → rest ≡ []) → HasFault read line → HasFault left line
 lift_has left read rest line whole short has = record {
   fault = has.fault;
   refused = lift_fault left read rest has.fault whole short has.refused;
@@ -123,7 +125,7 @@ untouched same write_rose rig_rose bad (BadStore area at) cause = tt
 
 -- a fault that was told
 
-refused_by : (bytes : List ℕ) (fault : DocumentFault) (line : ℕ) (text : List ℕ) → fault ≡ told.Bad line text → IsToldFault bytes fault → IsFault bytes (record { line = line; text = text })
+pub refused_by : (bytes : List ℕ) (fault : DocumentFault) (line : ℕ) (text : List ℕ) → fault ≡ told.Bad line text → IsToldFault bytes fault → IsFault bytes (record { line = line; text = text })
 refused_by bytes fault line text is refusal = subst (IsToldFault bytes) is refusal
 
 pub fault_text_of : (bytes : List ℕ) (fault : DocumentFault) (runs : Document → Status → Type 0) (before after : List ℕ) (status : Status) → IsToldFault bytes fault →

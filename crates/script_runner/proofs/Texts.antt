@@ -14,7 +14,8 @@ use Rattle.script_runner.specs.declared.status.Status.{Status}
 use Rattle.script_runner.specs.declared.status.Status.TheVariants.{Done, Usage, BadDocument, ReadFault, WriteFault, OutOfMemory, Down, BadStore}
 use Rattle.script_runner.specs.Endings.{EndText, UnopenedText, UnopenedCause}
 use Rattle.script_runner.specs.Openings.{Stops, StopCounts}
-use Rattle.script_runner.specs.Outcomes.{IsCut, Ran, IsWhole, IsCutScript, Starves, IsStarved, IsDown, ScriptText, HasSound}
+use Rattle.documents.specs.Cuts.{IsCut}
+use Rattle.script_runner.specs.Outcomes.{Ran, IsWhole, IsCutScript, Starves, IsStarved, IsDown, ScriptText, HasSound}
 use Rattle.script_runner.specs.Outcomes as outcome
 use Rattle.script_runner.specs.Serial.{Script}
 use Rattle.script_runner.specs.Standing.{Carried, HaltedAt, Reached}

@@ -9,7 +9,8 @@ use Rattle.delf_model.specs.declared.call.JobLine.{JobLine}
 use Rattle.delf_model.specs.State.{State, JobRow, find_job}
 use Rattle.delf_model.specs.Report.{job_line, line_of_row, listed_from}
 use Rattle.job_report.specs.Texts.{job_text, no_job_text, jobs_text, report_text, found_text, object_text, edge_text, load_text}
-use Rattle.script_runner.specs.Loads.{restored_count, loaded_line}
+use Rattle.documents.specs.Loads.{restored_count}
+use Rattle.script_runner.specs.LoadEnds.{loaded_line}
 use Rattle.script_runner.specs.Serial.{row_lines, row_named, job_lines, job_text_of, jobs_lines, report_line, listed_line}
 
 told : (schema : Schema) (s : State) (name : JobName) (o : Option JobRow) (line : JobLine) (text : List ℕ) → Some line ≡ line_of_row s o →

@@ -7,13 +7,13 @@ use Rattle.delf_model.specs.RuleSet.{RuleSet}
 use Rattle.delf_model.specs.Payloads.{Payloads}
 use Rattle.entry_codec.specs.EntryHead.{AreEntries}
 use Rattle.store_laws.specs.Stores.{StandBut}
-use Rattle.script_runner.specs.declared.document.Document.{Document}
+use Rattle.documents.specs.declared.document.Document.{Document}
 use Rattle.script_runner.specs.declared.status.Status.{Status}
 use Rattle.script_runner.specs.declared.status.Status.TheVariants.{Done, Usage, OutOfMemory}
-use Rattle.script_runner.specs.declared.words.Request.{Request}
-use Rattle.script_runner.specs.declared.words.Request.TheVariants.{Run, Check, Load}
-use Rattle.script_runner.specs.Documents.{IsDocument}
-use Rattle.script_runner.specs.Loads.{IsLoad}
+use Rattle.documents.specs.declared.words.Request.{Request}
+use Rattle.documents.specs.declared.words.Request.TheVariants.{Run, Check, Load}
+use Rattle.documents.specs.Documents.{IsDocument}
+use Rattle.documents.specs.Loads.{IsLoad}
 
 abbrev pub IsWell : Status → Type 0
 IsWell Done = Unit {0}

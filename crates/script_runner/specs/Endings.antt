@@ -9,7 +9,8 @@ use Rattle.delf_recovery.specs.declared.fault.OpenFault.{OpenFault}
 use Rattle.delf_recovery.specs.declared.fault.OpenFault.TheVariants as fault
 use Rattle.script_runner.specs.declared.status.Status.{Status}
 use Rattle.script_runner.specs.declared.status.Status.TheVariants.{Done, WriteFault, OutOfMemory, Down, BadStore}
-use Rattle.script_runner.specs.Outcomes.{IsCut, bad_text}
+use Rattle.documents.specs.Cuts.{IsCut}
+use Rattle.script_runner.specs.Outcomes.{bad_text}
 use Rattle.script_runner.specs.Worlds.{World, IsHeld}
 
 -- the line that tells of an opening that failed; want of memory tells none

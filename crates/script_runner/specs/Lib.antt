@@ -1,16 +1,14 @@
 pub mod Checks
 pub mod Codes
 pub mod Complete
-pub mod Documents
 pub mod Endings
+pub mod Faults
 pub mod Lines
 pub mod LoadEnds
-pub mod Loads
 pub mod Names
 pub mod Openings
 pub mod Orders
 pub mod Outcomes
-pub mod Requests
 pub mod Serial
 pub mod Standing
 pub mod Worlds

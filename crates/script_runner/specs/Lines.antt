@@ -15,7 +15,7 @@ use Rattle.job_report.specs.Texts.{created_text, updated_text, linked_text, unli
 use Rattle.script_runner.specs.declared.faults.LineFault.{LineFault}
 use Rattle.script_runner.specs.declared.faults.LineFault.TheVariants.{OutOfMemory, Failed}
 use Rattle.script_runner.specs.Worlds.{World, world_of}
-use Rattle.script_runner.specs.Serial.{edge_name}
+use Rattle.documents.specs.Names.{edge_name}
 
 -- what the disk holds stays
 abbrev pub KeepsRest : {G R : Type 0} → (R → Areas → Type 0) → Booked G R → Booked G R → Type 0

@@ -1,16 +1,24 @@
 -- What a load leaves in the sink and on the disk: it puts one line, behind the last settling.
-use Rattle.std.specs.Prelude.{◌≡◌, ◌⊎◌, ℕ, List, ◌++◌, length}
+use Rattle.std.specs.Prelude.{◌≡◌, ◌⊎◌, ℕ, List, ◌++◌, length, map}
 use Rattle.delf_disk.specs.Areas.{Areas}
 use Rattle.delf_model.specs.declared.schema.Schema.{Schema}
 use Rattle.delf_model.specs.declared.script.Command.{Command}
-use Rattle.job_report.specs.Texts.{down_text}
-use Rattle.script_runner.specs.declared.document.Document.{Document}
+use Rattle.delf_model.specs.Report.{job_line}
+use Rattle.delf_model.specs.State.{State}
+use Rattle.job_report.specs.Texts.{down_text, load_text}
+use Rattle.documents.specs.declared.document.Document.{Document}
 use Rattle.script_runner.specs.declared.status.Status.{Status}
 use Rattle.script_runner.specs.declared.status.Status.TheVariants.{Done, WriteFault, OutOfMemory, Down}
 use Rattle.script_runner.specs.Endings.{Settles, StaysDown, FallsAtEnd}
-use Rattle.script_runner.specs.Loads.{loaded_line}
-use Rattle.script_runner.specs.Outcomes.{IsCut, Ran, HasSound, Starves, OpenedText}
+use Rattle.documents.specs.Loads.{restored_count}
+use Rattle.documents.specs.Cuts.{IsCut}
+use Rattle.script_runner.specs.Outcomes.{Ran, HasSound, Starves, OpenedText}
 use Rattle.script_runner.specs.Worlds.{World, IsHeld, state_of}
+
+-- the line of a load that led to this state
+abbrev pub loaded_line : ℕ → State → List ℕ
+loaded_line n s =
+    load_text n (length s.graph.objects) (length s.graph.edges) s.len (length s.jobs) (restored_count (map (job_line s) s.jobs))
 
 -- the store was down before the settling, or the settling met a disk fault
 abbrev pub StopsDown : World → ℕ → ℕ → (Areas → Type 0) → Type 0

@@ -18,34 +18,26 @@ use Rattle.entry_codec.specs.EntryHead.{AreEntries}
 use Rattle.store_laws.specs.Stores.{StandBut, Settled}
 use Rattle.store_laws.specs.Moves.{RestIn}
 use Rattle.opening_laws.specs.Places.{BadPlace}
-use Rattle.job_report.specs.Texts.{fault_text, down_text, bad_journal_text, bad_vault_text}
-use Rattle.script_lang.specs.declared.fault.DocumentFault.{DocumentFault}
-use Rattle.script_lang.specs.declared.fault.DocumentFault.TheVariants as document_fault
-use Rattle.script_lang.specs.Scripts.{Fault}
+use Rattle.job_report.specs.Texts.{down_text, bad_journal_text, bad_vault_text}
 use Rattle.script_runner.specs.declared.status.Status.{Status}
 use Rattle.script_runner.specs.declared.status.Status.TheVariants.{Done, Usage, BadDocument, ReadFault, WriteFault, OutOfMemory, Down, BadStore}
-use Rattle.script_runner.specs.declared.words.Start.{Start}
-use Rattle.script_runner.specs.declared.words.Start.TheVariants.{At, Asked}
-use Rattle.script_runner.specs.declared.words.Request.{Request}
-use Rattle.script_runner.specs.declared.words.Request.TheVariants.{Run, Check, Load}
-use Rattle.script_runner.specs.declared.document.Document.{Document}
-use Rattle.script_runner.specs.Documents.{IsDocument, IsFault}
+use Rattle.documents.specs.declared.words.Start.{Start}
+use Rattle.documents.specs.declared.words.Start.TheVariants.{At, Asked}
+use Rattle.documents.specs.declared.words.Request.{Request}
+use Rattle.documents.specs.declared.words.Request.TheVariants.{Run, Check, Load}
+use Rattle.documents.specs.declared.document.Document.{Document}
+use Rattle.documents.specs.Cuts.{IsCut}
+use Rattle.documents.specs.Documents.{OfDocument, HasFault}
 use Rattle.script_runner.specs.Checks.{CheckText, CheckCause}
-use Rattle.script_runner.specs.Loads.{IsLoad}
+use Rattle.documents.specs.Loads.{OfLoad}
+use Rattle.script_runner.specs.Faults.{CutLine, TellsFault, CutsFault}
 use Rattle.script_runner.specs.Orders.{GivesAll}
-use Rattle.script_runner.specs.Requests.{moment_of_start}
+use Rattle.documents.specs.Requests.{moment_of_start}
 use Rattle.script_runner.specs.Serial.{Serves, Script, Halts}
 use Rattle.script_runner.specs.Worlds.{World, IsHeld, Opens}
 
 abbrev pub usage_line : List ℕ
 usage_line = codes "usage: delf run [--at N] | check | load N" ++ 10 ∷ []
-
-abbrev pub fault_line : Fault → List ℕ
-fault_line fault = fault_text fault.line fault.text
-
--- what was held before, then a front of this text that is not all of it
-abbrev pub IsCut : List ℕ → List ℕ → List ℕ → Type 0
-IsCut before after text = (n : ℕ) × (n < length text) × (after ≡ before ++ take n text)
 
 -- the history of a world is legal, and what every legal history is
 pub record HasSound (w : World) : Type 0 where
@@ -163,58 +155,6 @@ DocumentText document moment seen first start now images before after status =
     OpenedText document.rules moment seen first start now images before after
     (λ w it. ScriptText document.schema w document.commands start now images before after it) status
 
--- these bytes are some document, of which this holds
-pub record OfDocument (bytes : List ℕ) (P : Document → Type 0) : Type 0 where
-  pub document : Document
-  pub read : IsDocument bytes document
-  pub holds : P document
-
--- what a load of n objects makes is some document, of which this holds
-pub record OfLoad (n : ℕ) (P : Document → Type 0) : Type 0 where
-  pub document : Document
-  pub load : IsLoad n document
-  pub holds : P document
-
--- a line before the first command that did not go out whole
-abbrev pub CutLine : List ℕ → List ℕ → List ℕ → ℕ → Type 0
-CutLine line before after done = (done ≡ 0) × IsCut before after line
-
--- the sink after the line of a fault was to be put, and why it ended so
-
-abbrev pub FaultText : DocumentFault → List ℕ → List ℕ → Status → Type 0
-FaultText told before after Done = ⊥
-FaultText told before after Usage = ⊥
-FaultText told before after (BadDocument line) = (text : List ℕ) × (told ≡ document_fault.Bad line text) × (after ≡ before ++ fault_text line text)
-FaultText told before after ReadFault = ⊥
-FaultText told before after (WriteFault done) =
-    (line : ℕ) × ((text : List ℕ) × (told ≡ document_fault.Bad line text) × CutLine (fault_text line text) before after done)
-FaultText told before after (OutOfMemory done) = (done ≡ 0) × (after ≡ before)
-FaultText told before after (Down len) = ⊥
-FaultText told before after (BadStore area at) = ⊥
-
-abbrev pub FaultCause : DocumentFault → Type 0 → Status → Type 0
-FaultCause told write_rose Done = ⊥
-FaultCause told write_rose Usage = ⊥
-FaultCause told write_rose (BadDocument line) = (text : List ℕ) × (told ≡ document_fault.Bad line text)
-FaultCause told write_rose ReadFault = ⊥
-FaultCause told write_rose (WriteFault done) = (done ≡ 0) × write_rose
-FaultCause told write_rose (OutOfMemory done) = done ≡ 0
-FaultCause told write_rose (Down len) = ⊥
-FaultCause told write_rose (BadStore area at) = ⊥
-
--- the line of the fault for which the bytes are not run
-pub record TellsFault (bytes : List ℕ) (line : ℕ) (before after : List ℕ) : Type 0 where
-  pub fault : Fault
-  pub refused : IsFault bytes fault
-  pub line_is : line ≡ fault.line
-  pub text : after ≡ before ++ fault_line fault
-
--- a front of that line
-pub record CutsFault (bytes : List ℕ) (before after : List ℕ) (done : ℕ) : Type 0 where
-  pub fault : Fault
-  pub refused : IsFault bytes fault
-  pub cut : CutLine (fault_line fault) before after done
-
 -- the sink after bytes were read, by the status; `runs` is said of an accepted document
 abbrev pub BytesText : List ℕ → (Document → Status → Type 0) → List ℕ → List ℕ → Status → Type 0
 BytesText bytes runs before after Usage = ⊥
@@ -255,12 +195,6 @@ RunText None answer told left runs loads before after status = UsageText before 
 RunText (Some (Run start)) answer told left runs loads before after status = SourceText told left (runs (moment_of_start start answer)) before after status
 RunText (Some Check) answer told left runs loads before after status = CheckText told left before after status
 RunText (Some (Load n)) answer told left runs loads before after status = LoadedText n (loads n answer) before after status
-
--- these bytes are not run, and the fault has this line
-pub record HasFault (bytes : List ℕ) (line : ℕ) : Type 0 where
-  pub fault : Fault
-  pub refused : IsFault bytes fault
-  pub line_is : line ≡ fault.line
 
 -- why commands ended so
 abbrev pub ScriptCause : Type 0 → Type 0 → (Area → ℕ → Type 0) → Status → Type 0

@@ -1,8 +1,6 @@
 -- The serial meaning of a script: the lines of each command in a world, and the next world.
 use Rattle.std.specs.Prelude.{◌≡◌, ◌≢◌, ℕ, zero, suc, ◌<◌, ◌≤◌, true, false, cond, Option, Some, None, Result, Ok, Err, List, [], ◌∷◌, ◌++◌, ◌⊎◌, length, map, flat_map, slice_get, is_some}
 use Rattle.delf_disk.specs.Causes.{Rose}
-use Rattle.delf_model.specs.declared.schema.ObjectType.{ObjectType}
-use Rattle.delf_model.specs.declared.schema.EdgeType.{EdgeType}
 use Rattle.delf_model.specs.declared.schema.Schema.{Schema}
 use Rattle.delf_model.specs.declared.rows.ObjectRow.{ObjectRow}
 use Rattle.delf_model.specs.declared.rows.EdgeRow.{EdgeRow}
@@ -32,23 +30,8 @@ use Rattle.store_laws.specs.Stores.{digest}
 use Rattle.delf_book.specs.Parts.{Interrupted}
 use Rattle.delf_book.specs.Books.{given_by, restored_items}
 use Rattle.delf_book.specs.Steps.{PutsItem}
+use Rattle.documents.specs.Names.{kind_name, edge_name}
 use Rattle.script_runner.specs.Worlds.{World, state_of, now_of, interrupted, entered, with_entry, fallen, mended, later}
-
--- names of types
-
-abbrev pub name_of_type : Option ObjectType → List ℕ
-name_of_type None = []
-name_of_type (Some object) = object.name
-
-abbrev pub kind_name : Schema → ℕ → List ℕ
-kind_name schema kind = name_of_type (slice_get schema.objects kind)
-
-abbrev pub name_of_edge_type : Option EdgeType → List ℕ
-name_of_edge_type None = []
-name_of_edge_type (Some edge) = edge.name
-
-abbrev pub edge_name : Schema → ℕ → List ℕ
-edge_name schema edge = name_of_edge_type (slice_get schema.edges edge)
 
 -- calls
 

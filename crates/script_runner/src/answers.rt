@@ -1,29 +1,32 @@
+//! A writing call and the line of its answer.
 ghost use Rattle.std.specs.Prelude.{◌≡◌, cond, IfOk, OnErr, Some, None, length, is_some};
 ghost use Rattle.delf_disk.specs.Plain.{Plain, SameKind};
 ghost use Rattle.delf_model.specs.declared.script.Command.TheVariants.{Submit};
 ghost use Rattle.delf_model.specs.Payloads.{Payloads};
 ghost use Rattle.job_report.specs.Texts.{refusal_text};
 ghost use Rattle.script_runner.specs.Lines.{receipt_text};
-ghost use Rattle.script_runner.specs.Names.{HasNames, IsNamed, IsNumberedCall, IsNumberedRefusal};
+ghost use Rattle.documents.specs.Names.{HasNames, IsNumberedCall};
+ghost use Rattle.script_runner.specs.Names.{IsNamed, IsNumberedRefusal};
 ghost use Rattle.script_runner.specs.Serial.{refusal_name};
 ghost use Rattle.script_runner.specs.Standing.{Falls, Carries, Halted};
 
-use crate::names::{edge_name, kind_name, unprinted_name};
-use delf_book::{Book, Receipt};
+use crate::graph::ProgramBook;
+use crate::names::unprinted_name;
+use delf_book::Receipt;
 use delf_disk::Rig;
 use delf_model::{Bytes, Call, Moment, Refusal, Schema};
+use documents::{edge_name, kind_name};
 use job_report::{
     created_line, deleting_line, linked_line, refusal_line, restoring_line, unlinked_line,
     updated_line,
 };
-use live_graph::ListGraph;
 use std::alloc::{AllocError, Global};
 
 /// Makes a call at this moment of the clock, and gives the line of its answer.
 pub(crate) fn submit<R: Rig>(
     alloc: Global,
     schema: &Schema,
-    book: &mut Book<ListGraph, R>,
+    book: &mut ProgramBook<R>,
     clock: Moment,
     call: &Call,
 ) -> Result<Bytes, AllocError>

@@ -1,3 +1,4 @@
+//! Why lines were not made.
 /// Why lines that tell payloads were not made.
 #[derive(Clone, Copy, PartialEq, Eq, Debug)]
 pub(crate) enum LineFault {

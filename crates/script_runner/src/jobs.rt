@@ -1,26 +1,27 @@
+//! Lines of jobs, and the report.
 ghost use Rattle.std.specs.Prelude.{◌≡◌, ◌++◌, IfOk, flat_map};
 ghost use Rattle.delf_model.specs.State.{find_job};
 ghost use Rattle.delf_model.specs.Report.{listed_from, line_of_row};
 ghost use Rattle.job_report.specs.Texts.{job_text};
 ghost use Rattle.delf_book.specs.Books.{state_in};
-ghost use Rattle.script_runner.specs.Names.{HasNames, IsNumberedListed};
+ghost use Rattle.documents.specs.Names.{HasNames};
+ghost use Rattle.script_runner.specs.Names.{IsNumberedListed};
 ghost use Rattle.script_runner.specs.Serial.{job_lines, jobs_lines, report_line, row_named, listed_line as listed_line_of};
 
-use crate::names::{edge_name, unprinted_name};
+use crate::graph::ProgramBook;
+use crate::names::unprinted_name;
 use crate::readings::{edges, job_lines, line_of, listed, objects};
-use crate::shows::joined;
-use delf_book::Book;
 use delf_disk::Rig;
 use delf_model::{Bytes, Item, Job, JobLine, JobName, Listed, Schema};
+use documents::{edge_name, joined};
 use job_report::{job_line, jobs_line, listed_line, no_job_line, report_json};
-use live_graph::ListGraph;
 use std::alloc::{AllocError, Global};
 
 /// The line of the job that the name means, and of each item that it listed.
 pub(crate) fn job<R: Rig>(
     alloc: Global,
     schema: &Schema,
-    book: &Book<ListGraph, R>,
+    book: &ProgramBook<R>,
     name: &JobName,
 ) -> Result<Bytes, AllocError>
     requires { HasNames schema.now book.now.rules }
@@ -36,7 +37,7 @@ pub(crate) fn job<R: Rig>(
 fn told_lines<R: Rig>(
     alloc: Global,
     schema: &Schema,
-    book: &Book<ListGraph, R>,
+    book: &ProgramBook<R>,
     line: &JobLine,
 ) -> Result<Bytes, AllocError>
     requires { HasNames schema.now book.now.rules }
@@ -48,7 +49,7 @@ fn told_lines<R: Rig>(
 }
 
 // The line of the job that the name means.
-fn named_line<R: Rig>(book: &Book<ListGraph, R>, name: JobName) -> Option<JobLine>
+fn named_line<R: Rig>(book: &ProgramBook<R>, name: JobName) -> Option<JobLine>
     ensures { result ≡ line_of_row (state_in book.now) (row_named (state_in book.now) (find_job (state_in book.now).jobs name)) }
 {
     match book.find(name) {
@@ -60,7 +61,7 @@ fn named_line<R: Rig>(book: &Book<ListGraph, R>, name: JobName) -> Option<JobLin
 fn listed_lines<R: Rig>(
     alloc: Global,
     schema: &Schema,
-    book: &Book<ListGraph, R>,
+    book: &ProgramBook<R>,
     job: Job,
 ) -> Result<Bytes, AllocError>
     requires { HasNames schema.now book.now.rules }
@@ -80,7 +81,7 @@ fn listed_lines<R: Rig>(
 fn listed_row_line<R: Rig>(
     alloc: Global,
     schema: &Schema,
-    book: &Book<ListGraph, R>,
+    book: &ProgramBook<R>,
     listed: &Listed,
 ) -> Result<Bytes, AllocError>
     requires named { HasNames schema.now book.now.rules }
@@ -94,7 +95,7 @@ fn listed_row_line<R: Rig>(
 }
 
 /// How many jobs there are, and the line of each.
-pub(crate) fn jobs<R: Rig>(alloc: Global, book: &Book<ListGraph, R>) -> Result<Bytes, AllocError>
+pub(crate) fn jobs<R: Rig>(alloc: Global, book: &ProgramBook<R>) -> Result<Bytes, AllocError>
     ensures { IfOk result (λ text. text ≡ jobs_lines (state_in book.now)) }
 {
     let lines = job_lines(alloc, book)?;
@@ -115,10 +116,7 @@ fn each_job_line(alloc: Global, lines: &[JobLine]) -> Result<Bytes, AllocError>
 }
 
 /// The line of JSON: counts and jobs.
-pub(crate) fn report_text<R: Rig>(
-    alloc: Global,
-    book: &Book<ListGraph, R>,
-) -> Result<Bytes, AllocError>
+pub(crate) fn report_text<R: Rig>(alloc: Global, book: &ProgramBook<R>) -> Result<Bytes, AllocError>
     ensures { IfOk result (λ text. text ≡ report_line (state_in book.now)) }
 {
     let objects = objects(alloc, book)?;

@@ -10,26 +10,26 @@ ghost use Rattle.delf_model.specs.Sound.{Sound};
 ghost use Rattle.delf_book.specs.Books.{state_in};
 ghost use Rattle.script_runner.specs.Endings.{EndCause};
 ghost use Rattle.script_runner.specs.LoadEnds.{LoadText, LoadScriptText, LoadEndText, PutsLine, StarvesAmong};
-ghost use Rattle.script_runner.specs.Loads.{IsStill, loaded_line};
-ghost use Rattle.script_runner.specs.Names.{HasNames, IsNumberedCommand};
-ghost use Rattle.script_runner.specs.Outcomes.{IsBad, LoadedText, LoadCause, OfLoad, AsksOnce};
+ghost use Rattle.documents.specs.Loads.{IsStill};
+ghost use Rattle.script_runner.specs.LoadEnds.{loaded_line};
+ghost use Rattle.documents.specs.Names.{HasNames, IsNumberedCommand};
+ghost use Rattle.script_runner.specs.Outcomes.{IsBad, LoadedText, LoadCause, AsksOnce};
+ghost use Rattle.documents.specs.Loads.{OfLoad};
 ghost use Rattle.script_runner.specs.Standing.{Falls, Leads};
 ghost use Rattle.script_runner.specs.Worlds.{StandsOn, world_of};
 
-use crate::document::Document;
-use crate::load::{load_document, restored_count};
-use crate::put::put_all;
+use crate::graph::ProgramBook;
 use crate::readings::{edges, job_lines, objects};
 use crate::run::{put_down, put_unopened};
 use crate::script::perform;
 use crate::status::Status;
 use crate::store::Store;
-use delf_book::{Book, BookFault};
+use delf_book::BookFault;
 use delf_disk::Rig;
 use delf_io::{Clock, Sink};
 use delf_model::{Bytes, Command, GREATEST_MOMENT, Moment, Schema};
+use documents::{Document, load_document, put_all, restored_count};
 use job_report::load_line;
-use live_graph::ListGraph;
 use std::alloc::{AllocError, Global};
 
 /// Makes a load of `n` objects, 8 to 20,000, over the store on `rig`, at the moment that the clock answers, and puts its line
@@ -176,12 +176,7 @@ fn finish_load<K: Sink, R: Rig>(alloc: Global, n: u32, store: Store<R>, sink: &m
 }
 
 // Puts the line of a load.
-fn put_loaded<K: Sink, R: Rig>(
-    alloc: Global,
-    n: u32,
-    book: &Book<ListGraph, R>,
-    sink: &mut K,
-) -> Status
+fn put_loaded<K: Sink, R: Rig>(alloc: Global, n: u32, book: &ProgramBook<R>, sink: &mut K) -> Status
     ensures cause { EndCause 0 (Rose (K.faults sink.old) (K.faults sink.new)) ⊥ result }
     ensures text { IsTrue (K.told sink.old) → PutsLine (loaded_line n (state_in book.now)) (K.held sink.old) (K.held sink.new) result }
     ensures same_sink { K.told sink.new ≡ K.told sink.old }
@@ -197,7 +192,7 @@ fn put_loaded<K: Sink, R: Rig>(
 }
 
 // The line of a load: what the store has now.
-fn told_load<R: Rig>(alloc: Global, n: u32, book: &Book<ListGraph, R>) -> Result<Bytes, AllocError>
+fn told_load<R: Rig>(alloc: Global, n: u32, book: &ProgramBook<R>) -> Result<Bytes, AllocError>
     ensures { IfOk result (λ line. line ≡ loaded_line n (state_in book.now)) }
 {
     let objects = objects(alloc, book)?;

@@ -7,16 +7,15 @@ ghost use Rattle.delf_model.specs.Report.{job_at, job_line, line_of_row, listed_
 ghost use Rattle.delf_book.specs.Books.{state_in};
 ghost use Rattle.script_runner.specs.Names.{IsNumberedObject, IsNumberedEdge, IsNumberedListed};
 
-use delf_book::Book;
+use crate::graph::ProgramBook;
 use delf_disk::Rig;
 use delf_model::{EdgeRow, GraphStore, Job, JobLine, JobName, List, Listed, ObjectId, ObjectRow};
-use live_graph::ListGraph;
 use std::alloc::{AllocError, Global};
 
 /// The objects by rising id; the only error is want of memory.
 pub(crate) fn objects<R: Rig>(
     alloc: Global,
-    book: &Book<ListGraph, R>,
+    book: &ProgramBook<R>,
 ) -> Result<Vec<ObjectRow>, AllocError>
     ensures rows { IfOk result (λ rows. rows.items ≡ (state_in book.now).graph.objects) }
     ensures rise { IfOk result (λ rows. IsTrue (objects_rise rows.items)) }
@@ -30,7 +29,7 @@ pub(crate) fn objects<R: Rig>(
 /// The edges by rising key; the only error is want of memory.
 pub(crate) fn edges<R: Rig>(
     alloc: Global,
-    book: &Book<ListGraph, R>,
+    book: &ProgramBook<R>,
 ) -> Result<Vec<EdgeRow>, AllocError>
     ensures rows { IfOk result (λ rows. rows.items ≡ (state_in book.now).graph.edges) }
     ensures rise { IfOk result (λ rows. IsTrue (edges_rise rows.items)) }
@@ -42,7 +41,7 @@ pub(crate) fn edges<R: Rig>(
 }
 
 /// The row of the object with this id.
-pub(crate) fn object<R: Rig>(book: &Book<ListGraph, R>, id: ObjectId) -> Option<ObjectRow>
+pub(crate) fn object<R: Rig>(book: &ProgramBook<R>, id: ObjectId) -> Option<ObjectRow>
     ensures row { result ≡ object_at (state_in book.now).graph id }
     ensures numbered { IfSome result (IsNumberedObject book.now.rules) }
 {
@@ -53,7 +52,7 @@ pub(crate) fn object<R: Rig>(book: &Book<ListGraph, R>, id: ObjectId) -> Option<
 /// The line of each job, by age; the only error is want of memory.
 pub(crate) fn job_lines<R: Rig>(
     alloc: Global,
-    book: &Book<ListGraph, R>,
+    book: &ProgramBook<R>,
 ) -> Result<List<JobLine>, AllocError>
     ensures lines { IfOk result (λ lines. lines ≡ map (job_line (state_in book.now)) (state_in book.now).jobs) }
     ensures few { IfOk result (λ lines. length lines ≤ 500000) }
@@ -67,7 +66,7 @@ pub(crate) fn job_lines<R: Rig>(
 
 // Adds the line of the job at this place, if there is one.
 fn add_line<R: Rig>(
-    book: &Book<ListGraph, R>,
+    book: &ProgramBook<R>,
     place: u32,
     lines: &mut List<JobLine>,
 ) -> Result<(), AllocError>
@@ -90,7 +89,7 @@ fn add_line<R: Rig>(
 }
 
 /// The line of the job that was started at this position.
-pub(crate) fn line_of<R: Rig>(book: &Book<ListGraph, R>, job: Job) -> Option<JobLine>
+pub(crate) fn line_of<R: Rig>(book: &ProgramBook<R>, job: Job) -> Option<JobLine>
     ensures { result ≡ line_of_row (state_in book.now) (job_row (state_in book.now).jobs job) }
 {
     for place in 0..book.len() {
@@ -105,7 +104,7 @@ pub(crate) fn line_of<R: Rig>(book: &Book<ListGraph, R>, job: Job) -> Option<Job
 }
 
 /// The listed item of the job at this place, by falling item number.
-pub(crate) fn listed<R: Rig>(book: &Book<ListGraph, R>, job: Job, place: u32) -> Option<Listed>
+pub(crate) fn listed<R: Rig>(book: &ProgramBook<R>, job: Job, place: u32) -> Option<Listed>
     ensures listed { result ≡ listed_at (state_in book.now) job place }
     ensures numbered { IfSome result (IsNumberedListed book.now.rules) }
 {

@@ -1,6 +1,6 @@
+//! A run: the words, the source, the store, its commands one by one, and the last settling.
 ghost use Rattle.std.specs.Prelude.{◌≡◌, ◌++◌, ◌⊎◌, ◌<◌, ◌≤◌, ◌^◌, ℕ, List, true, false, IsTrue, IfOk, IfErr, map, length, string_bytes};
 ghost use Rattle.std.specs.List.{All};
-ghost use Rattle.delf_disk.specs.Areas.{Areas};
 ghost use Rattle.delf_disk.specs.Causes.{Rose as DiskRose};
 ghost use Rattle.delf_disk.specs.Plain.{Plain, SameKind, SameTelling};
 ghost use Rattle.delf_io.specs.Faults.{Rose};
@@ -10,37 +10,34 @@ ghost use Rattle.delf_model.specs.Sound.{Sound};
 ghost use Rattle.job_report.specs.Texts.{opened_text};
 ghost use Rattle.delf_model.specs.Payloads.{Payloads};
 ghost use Rattle.script_runner.specs.Complete.{IsQuiet, IsStore, EndsWell};
-ghost use Rattle.script_runner.specs.Documents.{IsDocument};
 ghost use Rattle.script_runner.specs.Endings.{UnopenedText, UnopenedCause, DownText, DownCause, EndText, EndCause};
 ghost use Rattle.script_runner.specs.LoadEnds.{LoadText};
 ghost use Rattle.script_runner.specs.Openings.{MayGive, StopCounts, Stops};
 ghost use Rattle.script_runner.specs.Orders.{Gives};
-ghost use Rattle.script_runner.specs.Requests.{request_of, moment_of_start};
-ghost use Rattle.script_runner.specs.Names.{HasNames, IsNumberedCommand, HasNoLanes};
-ghost use Rattle.script_runner.specs.Outcomes.{RunText, RunCause, UsageText, UsageCause, SourceText, SourceCause, BytesText, BytesCause, DocumentText, ScriptText, ScriptCause, FaultText, FaultCause, Untouched, UntouchedBy, UnreadBy, ReadsAll, ReadsAllBy, OrdersOf, OrdersBy, OrdersMade, IsBad, bad_text, Asks, AsksFor};
+ghost use Rattle.documents.specs.Requests.{request_of, moment_of_start};
+ghost use Rattle.documents.specs.Names.{HasNames, IsNumberedCommand, HasNoLanes};
+ghost use Rattle.script_runner.specs.Outcomes.{RunText, RunCause, UsageText, UsageCause, SourceText, SourceCause, BytesText, BytesCause, DocumentText, ScriptText, ScriptCause, Untouched, UntouchedBy, UnreadBy, ReadsAll, ReadsAllBy, OrdersOf, OrdersBy, OrdersMade, IsBad, bad_text, Asks, AsksFor};
+ghost use Rattle.script_runner.specs.Faults.{FaultText, FaultCause};
 ghost use Rattle.script_runner.specs.Standing.{Falls, Carries};
 ghost use Rattle.script_runner.specs.Worlds.{StandsOn, world_of};
 
 use crate::check::check_source;
-use crate::document::{Document, read_document};
 use crate::loading::run_load;
-use crate::put::put_all;
-use crate::read::{ReadError, read_at_most};
 use crate::script::perform;
 use crate::status::Status;
 use crate::store::{Store, crash};
-use crate::words::{Request, Start, read_words};
 use delf_book::BookFault;
 use delf_disk::{Area, Rig};
 use delf_io::{Clock, Sink, Source};
 use delf_model::{Bytes, Command, GREATEST_MOMENT, Moment, Schema};
 use delf_recovery::OpenFault;
+use documents::{
+    Document, READ_LIMIT, ReadError, Request, Start, put_all, read_at_most, read_document,
+    read_words,
+};
 use job_report::{bad_journal_line, bad_vault_line, down_line, fault_line, opened_line};
 use script_lang::DocumentFault;
 use std::alloc::{AllocError, Global};
-
-/// The greatest number of bytes that are read: one more than a document has.
-pub const READ_LIMIT: usize = 16_777_217;
 
 /// Runs the program with these words. `run` reads a document from `source`, opens the store on `rig`, makes the commands, and
 /// puts their lines to `sink`; the moment of the start is the one that the words give, or the clock's answer, which is asked

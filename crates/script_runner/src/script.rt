@@ -1,3 +1,4 @@
+//! One command and its lines.
 ghost use Rattle.std.specs.Prelude.{◌≡◌, ◌≤◌, false, IfOk, OnErr, []};
 ghost use Rattle.delf_disk.specs.Plain.{Plain, SameKind, SameTelling};
 ghost use Rattle.delf_model.specs.declared.schema.Schema.{Schema as ASchema};
@@ -7,7 +8,7 @@ ghost use Rattle.job_report.specs.Texts.{refusal_text};
 ghost use Rattle.delf_model.specs.Graph.{object_at};
 ghost use Rattle.delf_model.specs.Payloads.{Payloads};
 ghost use Rattle.script_runner.specs.Lines.{LineLeaves, Tells};
-ghost use Rattle.script_runner.specs.Names.{HasNames, IsNumberedCommand};
+ghost use Rattle.documents.specs.Names.{HasNames, IsNumberedCommand};
 ghost use Rattle.script_runner.specs.Orders.{Gives};
 ghost use Rattle.script_runner.specs.Serial.{row_found, graph_lines, report_line};
 ghost use Rattle.script_runner.specs.Standing.{Falls, Carries, Halted, StepsCarry, ReadsOut, StaysHeld, IsServed, LineSaid};
@@ -15,15 +16,15 @@ ghost use Rattle.script_runner.specs.Worlds.{state_of};
 
 use crate::answers::submit;
 use crate::faults::LineFault;
+use crate::graph::ProgramBook;
 use crate::jobs::{job, jobs, report_text};
 use crate::names::unprinted_name;
 use crate::shows::{found, graph_shown};
 use crate::store::Store;
-use delf_book::{Book, BookFault, StepFault, Worked};
+use delf_book::{BookFault, StepFault, Worked};
 use delf_disk::Rig;
 use delf_model::{Bytes, Command, Moment, ObjectId, Refusal, Schema};
 use job_report::{WorkEnd, down_line, refusal_line, work_line};
-use live_graph::ListGraph;
 use std::alloc::{AllocError, Global};
 
 /// Makes a command that keeps the store open, and gives its lines. The only error is want of memory.
@@ -70,7 +71,7 @@ pub(crate) fn perform<R: Rig>(
 // Makes steps until none is left, `n` at most, and gives the line of it.
 fn work<R: Rig>(
     alloc: Global,
-    book: &mut Book<ListGraph, R>,
+    book: &mut ProgramBook<R>,
     clock: Moment,
     n: u32,
 ) -> Result<Bytes, AllocError>
@@ -93,7 +94,7 @@ fn work<R: Rig>(
 
 // Makes steps until none is left, `n` at most, and gives their number with why no more were made.
 fn make_steps<R: Rig>(
-    book: &mut Book<ListGraph, R>,
+    book: &mut ProgramBook<R>,
     clock: Moment,
     n: u32,
 ) -> Result<(u32, WorkEnd), AllocError>
@@ -125,7 +126,7 @@ fn make_steps<R: Rig>(
 fn get<R: Rig>(
     alloc: Global,
     schema: &Schema,
-    book: &mut Book<ListGraph, R>,
+    book: &mut ProgramBook<R>,
     id: ObjectId,
 ) -> Result<Bytes, AllocError>
     requires named { HasNames schema.now book.old.rules }
@@ -148,7 +149,7 @@ fn get<R: Rig>(
 fn show<R: Rig>(
     alloc: Global,
     schema: &Schema,
-    book: &mut Book<ListGraph, R>,
+    book: &mut ProgramBook<R>,
 ) -> Result<Bytes, AllocError>
     requires named { HasNames schema.now book.old.rules }
     ensures rules { book.new.rules ≡ book.old.rules }
@@ -167,7 +168,7 @@ fn show<R: Rig>(
 }
 
 // Settles, and gives the line of the report.
-fn report<R: Rig>(alloc: Global, book: &mut Book<ListGraph, R>) -> Result<Bytes, AllocError>
+fn report<R: Rig>(alloc: Global, book: &mut ProgramBook<R>) -> Result<Bytes, AllocError>
     ensures rules { book.new.rules ≡ book.old.rules }
     ensures serves { IfOk result (λ text. Plain (R.Disk.told book.old.rig) (R.Disk.honest book.old.rig)
         → ReadsOut R.Disk.may_leave R.Disk.faults (λ w. report_line (state_of w)) book.old book.new text) }
@@ -184,7 +185,7 @@ fn report<R: Rig>(alloc: Global, book: &mut Book<ListGraph, R>) -> Result<Bytes,
 }
 
 // The line of the report, once the store is settled.
-fn reported<R: Rig>(alloc: Global, book: &mut Book<ListGraph, R>) -> Result<Bytes, LineFault>
+fn reported<R: Rig>(alloc: Global, book: &mut ProgramBook<R>) -> Result<Bytes, LineFault>
     requires up { book.old.down ≡ false }
     ensures text { IfOk result (Tells R.Disk.told R.Disk.honest R.Disk.may_leave book.old (λ w. report_line (state_of w))) }
     ensures leaves { LineLeaves R.Disk.told R.Disk.honest R.Disk.may_leave R.Disk.order R.Disk.orders R.Disk.faults book.old book.new result }

@@ -6,24 +6,25 @@ ghost use Rattle.delf_model.specs.Payloads.{payload_at};
 ghost use Rattle.delf_book.specs.Books.{state_in};
 ghost use Rattle.job_report.specs.Texts.{graph_text};
 ghost use Rattle.script_runner.specs.Lines.{LineLeaves, Tells};
-ghost use Rattle.script_runner.specs.Names.{HasNames, IsNumberedObject, IsNumberedEdge};
+ghost use Rattle.documents.specs.Names.{HasNames};
+ghost use Rattle.script_runner.specs.Names.{IsNumberedObject, IsNumberedEdge};
 ghost use Rattle.script_runner.specs.Serial.{row_found, graph_lines, object_line as object_line_of, edge_line as edge_line_of};
 
 use crate::faults::LineFault;
-use crate::names::{edge_name, kind_name};
+use crate::graph::ProgramBook;
 use crate::readings::{edges, object, objects};
-use delf_book::{Book, BookFault};
+use delf_book::BookFault;
 use delf_disk::Rig;
 use delf_model::{Bytes, EdgeKey, EdgeRow, LIMIT, ObjectId, ObjectRow, Schema};
+use documents::{edge_name, kind_name};
 use job_report::{absent_line, edge_line, found_line, graph_line, object_line};
-use live_graph::ListGraph;
 use std::alloc::{AllocError, Global};
 
 /// The line of an object with its owner, or that there is none.
 pub(crate) fn found<R: Rig>(
     alloc: Global,
     schema: &Schema,
-    book: &mut Book<ListGraph, R>,
+    book: &mut ProgramBook<R>,
     id: ObjectId,
 ) -> Result<Bytes, LineFault>
     requires named { HasNames schema.now book.old.rules }
@@ -42,7 +43,7 @@ pub(crate) fn found<R: Rig>(
 fn found_row<R: Rig>(
     alloc: Global,
     schema: &Schema,
-    book: &mut Book<ListGraph, R>,
+    book: &mut ProgramBook<R>,
     row: &ObjectRow,
 ) -> Result<Bytes, LineFault>
     requires named { HasNames schema.now book.old.rules }
@@ -62,7 +63,7 @@ fn found_row<R: Rig>(
 
 // Reads the payload of a row of the graph to the front of `bytes`, and gives its size.
 fn object_payload<R: Rig>(
-    book: &mut Book<ListGraph, R>,
+    book: &mut ProgramBook<R>,
     row: &ObjectRow,
     bytes: &mut [u8],
 ) -> Result<usize, LineFault>
@@ -82,7 +83,7 @@ fn object_payload<R: Rig>(
 }
 
 fn edge_payload<R: Rig>(
-    book: &mut Book<ListGraph, R>,
+    book: &mut ProgramBook<R>,
     row: &EdgeRow,
     bytes: &mut [u8],
 ) -> Result<usize, LineFault>
@@ -117,7 +118,7 @@ fn line_or(line: Result<Bytes, AllocError>) -> Result<Bytes, LineFault>
 pub(crate) fn graph_shown<R: Rig>(
     alloc: Global,
     schema: &Schema,
-    book: &mut Book<ListGraph, R>,
+    book: &mut ProgramBook<R>,
 ) -> Result<Bytes, LineFault>
     requires named { HasNames schema.now book.old.rules }
     requires up { book.old.down ≡ false }
@@ -131,7 +132,7 @@ pub(crate) fn graph_shown<R: Rig>(
 }
 
 // The line with the numbers of rows.
-fn rows_counted<R: Rig>(alloc: Global, book: &Book<ListGraph, R>) -> Result<Bytes, LineFault>
+fn rows_counted<R: Rig>(alloc: Global, book: &ProgramBook<R>) -> Result<Bytes, LineFault>
     ensures text { IfOk result (λ text. text ≡ graph_text (length (state_in book.now).graph.objects) (length (state_in book.now).graph.edges)) }
     ensures err { IfErr result (λ fault. fault ≡ LineFault.OutOfMemory) }
 {
@@ -142,15 +143,6 @@ fn rows_counted<R: Rig>(alloc: Global, book: &Book<ListGraph, R>) -> Result<Byte
         return Err(LineFault::OutOfMemory);
     };
     line_or(graph_line(alloc, objects.len() as u32, edges.len() as u32))
-}
-
-/// A text with another one behind it.
-pub(crate) fn joined(alloc: Global, first: &[u8], second: &[u8]) -> Result<Bytes, AllocError>
-    ensures { IfOk result (λ text. text ≡ first.now ++ second.now) }
-{
-    let mut text = Vec::from_slice(alloc, first)?;
-    text.extend_from_slice(second)?;
-    Ok(Bytes::from_vec(text))
 }
 
 // Three texts, one behind the other.
@@ -172,7 +164,7 @@ fn joined_three(
 fn object_rows<R: Rig>(
     alloc: Global,
     schema: &Schema,
-    book: &mut Book<ListGraph, R>,
+    book: &mut ProgramBook<R>,
 ) -> Result<Bytes, LineFault>
     requires named { HasNames schema.now book.old.rules }
     requires up { book.old.down ≡ false }
@@ -195,7 +187,7 @@ fn object_rows<R: Rig>(
 fn object_row_line<R: Rig>(
     alloc: Global,
     schema: &Schema,
-    book: &mut Book<ListGraph, R>,
+    book: &mut ProgramBook<R>,
     row: &ObjectRow,
 ) -> Result<Bytes, LineFault>
     requires named { HasNames schema.now book.old.rules }
@@ -216,7 +208,7 @@ fn object_row_line<R: Rig>(
 fn edge_rows<R: Rig>(
     alloc: Global,
     schema: &Schema,
-    book: &mut Book<ListGraph, R>,
+    book: &mut ProgramBook<R>,
 ) -> Result<Bytes, LineFault>
     requires named { HasNames schema.now book.old.rules }
     requires up { book.old.down ≡ false }
@@ -239,7 +231,7 @@ fn edge_rows<R: Rig>(
 fn edge_row_line<R: Rig>(
     alloc: Global,
     schema: &Schema,
-    book: &mut Book<ListGraph, R>,
+    book: &mut ProgramBook<R>,
     row: &EdgeRow,
 ) -> Result<Bytes, LineFault>
     requires named { HasNames schema.now book.old.rules }

@@ -1,3 +1,4 @@
+//! A store: what a script runs against.
 ghost use Rattle.std.specs.Prelude.{◌≡◌, ◌+◌, ◌⊎◌, min, false, None, IfOk, IfErr, List, length};
 ghost use Rattle.delf_disk.specs.Areas.{Areas};
 ghost use Rattle.delf_disk.specs.Plain.{Plain, SameKind, SameTelling};
@@ -15,16 +16,15 @@ ghost use Rattle.script_runner.specs.Openings.{CountsOpen, MayGive, Stops};
 ghost use Rattle.script_runner.specs.Orders.{Gives};
 ghost use Rattle.script_runner.specs.Standing.{Carries};
 
-use delf_book::Book;
+use crate::graph::{ProgramBook, ProgramGraph};
 use delf_disk::Rig;
 use delf_model::{GREATEST_MOMENT, Moment, Rules, Schema};
 use delf_recovery::{OpenFault, open_book};
-use live_graph::ListGraph;
 use std::alloc::Global;
 
 /// What a script runs against: a book over its disk, and the moment of the clock at which calls are made.
 pub(crate) struct Store<R: Rig> {
-    pub(crate) book: Book<ListGraph, R>,
+    pub(crate) book: ProgramBook<R>,
     pub(crate) clock: Moment,
 }
 
@@ -56,7 +56,7 @@ impl<R: Rig> Store<R> {
         ensures ok_count { IfOk result (λ store. R.Disk.faults store.book.rig ≡ R.Disk.faults rig) }
         ensures err_count { IfErr result (λ it. CountsOpen (R.Disk.faults rig) (R.Disk.faults it.1) it.0) }
     {
-        let graph = match ListGraph::empty(alloc, &rules) {
+        let graph = match ProgramGraph::empty(alloc, &rules) {
             Ok(graph) => graph,
             Err(_) => return Err((OpenFault::OutOfMemory, rig)),
         };

@@ -4,7 +4,8 @@ use Rattle.delf_model.specs.Report.{listed_from}
 use Rattle.delf_book.specs.Books.{state_in}
 use Rattle.script_runner.specs.Serial.{listed_line}
 use Rattle.script_runner.proofs.Counts.{listed_within}
-use Rattle.script_runner.proofs.Loops.{text_grows_at, take_past}
+use Rattle.documents.proofs.Places.{take_past}
+use Rattle.script_runner.proofs.Loops.{text_grows_at}
 use Rattle.script_runner.proofs.jobs.listed_lines.Goals as goal
 
 pub loop-place-preserved : goal.loop-place-preserved

@@ -1,5 +1,5 @@
 use Rattle.std.proofs.Common.{refl, sym, subst, ◌∙◌, arith}
-use Rattle.script_runner.specs.Loads.{IsStill}
+use Rattle.documents.specs.Loads.{IsStill}
 use Rattle.script_runner.specs.Worlds.{world_of}
 use Rattle.script_runner.proofs.Calls.{on_err}
 use Rattle.script_runner.proofs.LoadSteps.{still_orders, leads_none, leads_more, falls_none, falls_then}

@@ -1,6 +1,6 @@
 use Rattle.std.proofs.Common.{◌≡◌, length, sym, ap, ◌∙◌, arith}
 use Rattle.std.proofs.lemmas.Result.{IfOk-weaker}
-use Rattle.script_runner.specs.Loads.{restored_count}
+use Rattle.documents.specs.Loads.{restored_count}
 use Rattle.ledger.proofs.Entering.{len_after}
 use Rattle.delf_book.specs.Books.{state_in}
 use Rattle.script_runner.proofs.Told.{load_told}

@@ -1,7 +1,7 @@
 use Rattle.std.proofs.Common.{◌≡◌, ℕ, subst, rules}
 use Rattle.delf_disk.specs.Plain.{Plain}
 use Rattle.script_runner.specs.Outcomes.{DocumentText}
-use Rattle.script_runner.specs.Requests.{moment_of_start}
+use Rattle.documents.specs.Requests.{moment_of_start}
 use Rattle.script_runner.proofs.Sources.{fault_cause_of, fault_text_of, bytes_text}
 use Rattle.script_runner.proofs.run.run_bytes.Goals.{in-At, in-Asked}
 use Rattle.script_runner.proofs.run.run_bytes.Goals as goal

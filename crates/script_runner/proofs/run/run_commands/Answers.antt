@@ -5,7 +5,7 @@ use Rattle.script_runner.specs.Endings.{UnopenedCause}
 use Rattle.script_runner.specs.Worlds.{world_of}
 use Rattle.script_runner.proofs.Causes.{stopped_cause, stopped_orders, cut_orders, falls_next}
 use Rattle.script_runner.proofs.Ends.{orders_none, orders_more}
-use Rattle.script_runner.proofs.Loops.{take_past}
+use Rattle.documents.proofs.Places.{take_past}
 use Rattle.script_runner.proofs.Moves.{plain_then}
 use Rattle.script_runner.proofs.Texts.{SoFar, none_so_far, more_so_far, stopped, cut_in_lines, ended}
 use Rattle.script_runner.proofs.run.run_commands.Goals as goal

@@ -2,10 +2,10 @@ use Rattle.std.proofs.Common.{◌≡◌, Option, Some, map, string_bytes, subst,
 use Rattle.delf_disk.specs.Causes.{Rose as DiskRose}
 use Rattle.delf_disk.specs.Plain.{Plain}
 use Rattle.delf_io.specs.Faults.{Rose}
-use Rattle.script_runner.specs.declared.words.Request.{Request}
-use Rattle.script_runner.specs.declared.words.Request.TheVariants.{Run, Check, Load}
+use Rattle.documents.specs.declared.words.Request.{Request}
+use Rattle.documents.specs.declared.words.Request.TheVariants.{Run, Check, Load}
 use Rattle.script_runner.specs.Outcomes.{RunCause, IsBad}
-use Rattle.script_runner.specs.Requests.{request_of}
+use Rattle.documents.specs.Requests.{request_of}
 use Rattle.script_runner.proofs.Completes.{ends_well}
 use Rattle.script_runner.proofs.run.run_plain.Goals as goal
 

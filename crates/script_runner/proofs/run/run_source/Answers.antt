@@ -1,7 +1,7 @@
 use Rattle.std.proofs.Common.{◌≡◌, ◌++◌, ℕ, List, sym, subst, arith}
 use Rattle.delf_disk.specs.Plain.{Plain}
 use Rattle.script_runner.specs.Outcomes.{DocumentText}
-use Rattle.script_runner.specs.Requests.{moment_of_start}
+use Rattle.documents.specs.Requests.{moment_of_start}
 use Rattle.script_runner.proofs.Sources.{source_text, source_cause, source_orders, reads_all}
 use Rattle.script_runner.proofs.run.run_source.Goals as goal
 

@@ -3,7 +3,7 @@ use Rattle.delf_book.specs.Books.{state_in}
 use Rattle.script_runner.specs.Serial.{edge_line}
 use Rattle.script_runner.specs.Worlds.{world_of}
 use Rattle.script_runner.proofs.Finds.{edge_listed}
-use Rattle.script_runner.proofs.Loops.{take_past}
+use Rattle.documents.proofs.Places.{take_past}
 use Rattle.script_runner.proofs.Moves.{moved_then, leaves_then, tells_then, tells_more, same_state}
 use Rattle.script_runner.proofs.shows.edge_rows.Goals as goal
 

@@ -1,0 +1,10 @@
+pub mod Documents
+pub mod Generated
+pub mod Once
+pub mod Places
+pub mod ReadBytes
+pub mod Requests
+pub mod Restored
+pub mod Routes
+pub mod Turns
+pub mod Unblocked

@@ -1,5 +1,0 @@
-use Rattle.script_runner.specs.Checks.{AreRouteLines, by_any_types}
-use Rattle.script_runner.proofs.check.route_lines.Given as goal
-
-abbrev pub invariant-loop-kind : goal.invariant-loop-kind
-invariant-loop-kind l = AreRouteLines l.schema (by_any_types l.schema l.kind) l.text.items

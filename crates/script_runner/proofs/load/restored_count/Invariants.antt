@@ -1,9 +1,0 @@
-use Rattle.std.proofs.Common.{◌≡◌, ◌≤◌, take}
-use Rattle.script_runner.specs.Loads.{restored_count}
-use Rattle.script_runner.proofs.load.restored_count.Given as goal
-
-abbrev pub invariant-loop-line : goal.invariant-loop-line
-invariant-loop-line l = record {
-  counted : l.count ≡ restored_count (take l.line-index l.lines);
-  few : l.count ≤ l.line-index;
-}

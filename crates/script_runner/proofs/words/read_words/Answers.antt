@@ -1,6 +1,0 @@
-use Rattle.std.proofs.Common.{string_bytes, arith}
-use Rattle.script_runner.proofs.Requests.{past_three}
-use Rattle.script_runner.proofs.words.read_words.Goals as goal
-
-pub returns-in_default-2-clause-request : goal.returns-in_default-2-clause-request
-returns-in_default-2-clause-request c = past_three string_bytes c.args.words.now (omega (arith, c.in_default.len_at_least))
