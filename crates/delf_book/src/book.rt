@@ -184,6 +184,7 @@ impl<G: GraphStore, R: Rig> Book<G, R> {
         ensures none_lost { Plain (R.Disk.told self.old.rig) (R.Disk.honest self.old.rig) → (c : Areas) → R.Disk.may_leave self.old.rig c → R.Disk.may_leave self.new.rig c }
         ensures telling { SameTelling R.Disk.told R.Disk.honest self.old.rig self.new.rig }
         ensures count { R.Disk.faults self.new.rig ≡ R.Disk.faults self.old.rig }
+        ensures fuse { R.Disk.fuse self.new.rig ≡ n }
         ensures order { R.Disk.order self.new.rig ≡ FailAfter n }
         ensures orders { NextCount (R.Disk.orders self.old.rig) (R.Disk.orders self.new.rig) }
     {
