@@ -114,12 +114,13 @@ pub record Stayed {G R : Type 0} (old now : Booked G R) : Type 0 where
   pub spare : old.spare ≤ now.spare
   pub rig : now.rig ≡ old.rig
 
--- a disk fault: the history stays, the book is down, and this may stand beside it
+-- a disk fault: the history stays, the book is down, this may stand beside it, and no room is lost
 pub record Fell {G R : Type 0} (old now : Booked G R) (beside : Option Interrupted) : Type 0 where
   pub rules : now.rules ≡ old.rules
   pub history : now.history ≡ old.history
   pub down : now.down ≡ true
   pub is_beside : now.beside ≡ beside
+  pub spare : old.spare ≤ now.spare
 
 -- a call was accepted: the entry is what the call asks for
 pub record Accepted {G R : Type 0} (old now : Booked G R) (moment seat : ℕ) (asked : Call) (receipt : Receipt) : Type 0 where

@@ -1,5 +1,5 @@
--- What a book keeps of its logs and its disk while it is up.
-use Rattle.std.specs.Prelude.{◌≡◌, ℕ, zero, suc, ◌+◌, ◌≤◌, Bool, true, false, cond, List, [], ◌∷◌, Some, None, length, map, slice_get}
+-- What a book keeps of its logs and its disk.
+use Rattle.std.specs.Prelude.{◌≡◌, ℕ, zero, suc, ◌+◌, ◌≤◌, Bool, true, false, cond, List, [], ◌∷◌, Option, Some, None, length, map, slice_get}
 use Rattle.delf_disk.specs.declared.area.Area.TheVariants as area
 use Rattle.delf_disk.specs.Areas.{Areas}
 use Rattle.delf_disk.specs.Plain.{Plain}
@@ -19,6 +19,8 @@ use Rattle.delf_model.specs.Payloads.{Payloads, is_needed, last_carrier, Journal
 use Rattle.payload_laws.specs.Holders.{record_size}
 use Rattle.store_laws.specs.Stores.{Clean, payload_in, seals_of, journal_of, vault_of}
 use Rattle.store_laws.specs.Moves.{RestIn}
+use Rattle.delf_book.specs.Parts.{Interrupted}
+use Rattle.delf_book.specs.Holding.{StandsBeside}
 
 -- the lengths of the heads and payloads of the journal records of a history
 abbrev pub journal_sizes : State → List Entry → List (ℕ × ℕ)
@@ -77,6 +79,11 @@ pub record KeepsUp (rules : RuleSet) (history : List Entry) (spare ledger : ℕ)
   pub carried : KeepsCarriers rules history carriers
   pub room : HasRoom spare ledger journal vault (length carriers) capacity
   pub areas : Plain told honest → KeepsAreas rules history seen may_leave
+
+-- of a book that is down: each image stands for the history, or for it with what is beside it
+pub record KeepsDown (rules : RuleSet) (history : List Entry) (beside : Option Interrupted) (images : Areas → Type 0) : Type 0 where
+  pub payloads : Payloads
+  pub stands : (c : Areas) → images c → StandsBeside rules history payloads beside c
 
 -- an entry that scrubs at most the payload of the row that it takes or rewrites
 abbrev pub scrubs_rows : What → Bool

@@ -1,5 +1,6 @@
 pub mod Books
 pub mod Dead
+pub mod Holding
 pub mod Keeping
 pub mod Parts
 pub mod Reads

@@ -1,4 +1,4 @@
-ghost use Rattle.std.specs.Prelude.{◌≡◌, ◌≤◌, length, nat_eq, IfSome};
+ghost use Rattle.std.specs.Prelude.{◌≡◌, ◌≤◌, false, None, length, nat_eq, IfSome};
 ghost use Rattle.delf_disk.specs.declared.area.Order.TheVariants.{FailAfter};
 ghost use Rattle.delf_disk.specs.Areas.{Areas};
 ghost use Rattle.delf_disk.specs.Plain.{Plain, SameTelling, NextCount};
@@ -12,6 +12,7 @@ ghost use Rattle.delf_model.specs.Report.{status as status_of, job_at as line_at
 ghost use Rattle.job_table.specs.Table.{IsGraphOf, top_seat as greatest_seat};
 ghost use Rattle.ledger.specs.Ledgers.{found};
 ghost use Rattle.delf_book.specs.Books.{state_in};
+ghost use Rattle.delf_book.specs.Holding.{Holds};
 
 use crate::beside::Beside;
 use crate::logs::Logs;
@@ -36,15 +37,18 @@ pub struct Book<G: GraphStore, R: Rig> {
 }
 
 impl<G: GraphStore, R: Rig> Model for Book<G, R> {
-    ghost use Rattle.std.specs.Prelude.{◌≡◌, false, vec_capacity};
+    ghost use Rattle.std.specs.Prelude.{◌≡◌, true, false, None, vec_capacity};
+    ghost use Rattle.delf_disk.specs.Plain.{Plain};
     ghost use Rattle.delf_book.specs.Books.{Booked};
-    ghost use Rattle.delf_book.specs.Keeping.{KeepsUp};
+    ghost use Rattle.delf_book.specs.Keeping.{KeepsUp, KeepsDown};
 
     ghost Value = { Booked G R };
 
     ghost view = { λ b. record { rules = b.ledger.rules; history = b.ledger.history; store = b.ledger.store; spare = b.spare; down = b.down; beside = b.beside; rig = b.rig } };
 
-    ghost invariant = { λ b. b.down ≡ false → KeepsUp b.ledger.rules b.ledger.history b.spare b.ledger.spare b.logs.journal b.logs.vault b.logs.carriers.items (vec_capacity b.logs.carriers) (R.Disk.told b.rig) (R.Disk.honest b.rig) (R.Disk.seen b.rig) (R.Disk.may_leave b.rig) };
+    ghost invariant = { λ b. (b.down ≡ false → KeepsUp b.ledger.rules b.ledger.history b.spare b.ledger.spare b.logs.journal b.logs.vault b.logs.carriers.items (vec_capacity b.logs.carriers) (R.Disk.told b.rig) (R.Disk.honest b.rig) (R.Disk.seen b.rig) (R.Disk.may_leave b.rig))
+        × (b.down ≡ false → b.beside ≡ None)
+        × (b.down ≡ true → Plain (R.Disk.told b.rig) (R.Disk.honest b.rig) → KeepsDown b.ledger.rules b.ledger.history b.beside (R.Disk.may_leave b.rig)) };
 }
 
 impl<G: GraphStore, R: Rig> Book<G, R> {
@@ -95,6 +99,17 @@ impl<G: GraphStore, R: Rig> Book<G, R> {
         ensures { result ≡ self.now.down }
     {
         self.down
+    }
+
+    /// Tells what the disk holds. Each image stands for the history and one payload state, or while the book is down, for
+    /// that or for it with the entry beside it. While it is up nothing is beside it, and both areas hold nothing more but
+    /// closed tails.
+    pub fn standing(&self)
+        ensures alone { self.now.down ≡ false → self.now.beside ≡ None }
+        ensures holds { Plain (R.Disk.told self.now.rig) (R.Disk.honest self.now.rig) → Holds R.Disk.seen R.Disk.may_leave self.now }
+    {
+        let _down = self.down;
+        let _len = self.ledger.len();
     }
 
     /// The number of entries, and of those that may still be owed.
@@ -169,6 +184,7 @@ impl<G: GraphStore, R: Rig> Book<G, R> {
         ensures none_lost { Plain (R.Disk.told self.old.rig) (R.Disk.honest self.old.rig) → (c : Areas) → R.Disk.may_leave self.old.rig c → R.Disk.may_leave self.new.rig c }
         ensures telling { SameTelling R.Disk.told R.Disk.honest self.old.rig self.new.rig }
         ensures count { R.Disk.faults self.new.rig ≡ R.Disk.faults self.old.rig }
+        ensures fuse { R.Disk.fuse self.new.rig ≡ n }
         ensures order { R.Disk.order self.new.rig ≡ FailAfter n }
         ensures orders { NextCount (R.Disk.orders self.old.rig) (R.Disk.orders self.new.rig) }
     {

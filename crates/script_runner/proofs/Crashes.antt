@@ -22,7 +22,8 @@ use Rattle.job_report.specs.Texts.{opened_text}
 use Rattle.script_runner.specs.Openings.{Stops}
 use Rattle.script_runner.specs.Serial as serial
 use Rattle.script_runner.specs.Standing.{Carried, HaltedAt}
-use Rattle.script_runner.specs.Worlds.{World, StandsOn, IsHeld, StandsBeside, world_of}
+use Rattle.delf_book.specs.Holding.{StandsBeside}
+use Rattle.script_runner.specs.Worlds.{World, StandsOn, IsHeld, world_of}
 use Rattle.script_runner.proofs.Standing.{world, same_world, stands_held, up_stands}
 
 pub entries_with : (history : List Entry) (entry : Entry) → AreEntries history → IsEntry entry → AreEntries (history ++ entry ∷ [])

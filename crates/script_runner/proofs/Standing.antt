@@ -17,7 +17,8 @@ use Rattle.delf_book.specs.Parts.{Interrupted}
 use Rattle.delf_book.specs.Books.{Booked, Fell}
 use Rattle.script_runner.specs.Serial.{Halts}
 use Rattle.script_runner.specs.Standing.{Carried, HaltedAt}
-use Rattle.script_runner.specs.Worlds.{World, StandsOn, IsHeld, StandsBeside, world_of, fallen}
+use Rattle.delf_book.specs.Holding.{StandsBeside}
+use Rattle.script_runner.specs.Worlds.{World, StandsOn, IsHeld, world_of, fallen}
 
 -- worlds with the same parts
 

@@ -1,5 +1,5 @@
 -- A world: what a script runs against, between two commands.
-use Rattle.std.specs.Prelude.{◌≡◌, ℕ, ◌+◌, min, Bool, true, false, List, [], ◌∷◌, ◌++◌, Option, Some, None}
+use Rattle.std.specs.Prelude.{◌≡◌, ℕ, ◌+◌, min, Bool, true, false, List, [], ◌∷◌, ◌++◌, Option, None}
 use Rattle.delf_disk.specs.Areas.{Areas}
 use Rattle.delf_model.specs.declared.entry.Entry.{Entry}
 use Rattle.delf_model.specs.declared.entry.What.{What}
@@ -9,10 +9,11 @@ use Rattle.delf_model.specs.Step.{after}
 use Rattle.delf_model.specs.Room.{moment_of, greatest_moment}
 use Rattle.delf_model.specs.Payloads.{Payloads, payloads_after}
 use Rattle.store_laws.specs.Stores.{digest, StandBut}
-use Rattle.store_laws.specs.Moves.{RestIn, StandsFor}
+use Rattle.store_laws.specs.Moves.{RestIn}
 use Rattle.entry_codec.specs.EntryHead.{AreEntries}
 use Rattle.delf_book.specs.Parts.{Interrupted}
 use Rattle.delf_book.specs.Books.{Booked}
+use Rattle.delf_book.specs.Holding.{StandsBeside}
 
 -- a history and its payloads, the moment at which calls are made, whether a disk fault was met since the opening, and the
 -- entry that may then stand beside the history
@@ -69,12 +70,7 @@ later w seconds = record w { clock = min (w.clock + seconds) greatest_moment }
 
 -- what the bytes of a disk hold of a world
 
--- these areas stand for a history and its payloads, or for it with what is beside it
-abbrev pub StandsBeside : RuleSet → List Entry → Payloads → Option Interrupted → Areas → Type 0
-StandsBeside rules history e None c = StandBut rules history e c
-StandsBeside rules history e (Some it) c = StandsFor rules history e it.entry it.payload c
-
--- so does every image of a disk
+-- every image of a disk stands for the history and its payloads, or for it with what is beside it
 abbrev pub IsHeld : World → (Areas → Type 0) → Type 0
 IsHeld w images = (c : Areas) → images c → StandsBeside w.rules w.history w.payloads w.beside c
 

@@ -1,8 +1,12 @@
 use Rattle.std.proofs.Common.{◌≡◌, ℕ, ◌≤◌, length, max, min, sym, ap, ◌∙◌, subst, arith}
 use Rattle.delf_disk.specs.Plain.{Plain}
+use Rattle.delf_disk.proofs.Flags.{was_plain}
 use Rattle.delf_model.specs.RuleSet.{RuleSet}
 use Rattle.delf_model.specs.Room.{greatest_moment, moment_of}
+use Rattle.delf_model.specs.Step.{after}
+use Rattle.delf_book.specs.Keeping.{payloads_in}
 use Rattle.delf_book.specs.Books.{Booked, state_in}
+use Rattle.delf_book.proofs.Fallen.{fell_beside}
 use Rattle.delf_book.proofs.Callings.{entry_here, call_safe, call_durable}
 use Rattle.delf_book.proofs.book.Book.call.Goals as goal
 
@@ -70,3 +74,17 @@ returns-in-Err-Failed-clause-crash g c = λ plain what is.
     let here : Plain (g.R.Disk.told c.self.inside.rig) (g.R.Disk.honest c.self.inside.rig) =
     subst (λ (b : Booked g.row.G.Denot g.row.R.Denot). Plain (g.R.Disk.told b.rig) (g.R.Disk.honest b.rig)) (sym c.self.view_is) plain in
     call_safe view c.args.self.now c.self.view_is c.args.now c.args.seat c.args.call.now c.moment_at-moment.result m_is c.in_ok-what.what c.in_ok-what.ensures.reply c.payload_of-payload.result.now c.payload_of-payload.ensures c.enter.new.disk g.R.Disk.moment g.R.Disk.may_leave g.R.Disk.left_since (c.enter.ensures.crash here) what is
+
+pub invariant_of-self-in-Err-Failed : goal.invariant_of-self-in-Err-Failed
+invariant_of-self-in-Err-Failed g c = (
+  λ up. absurd (cc up),
+  λ up. absurd (cc up),
+  λ down plain.
+      let l = c.self.inside.ledger in
+      let now = c.enter.new.ledger in
+      let here = was_plain c.enter.ensures.kind plain in
+      let kept = (c.self.invariant.0 c.if-self.false).areas here in
+      let e = payloads_in (after l.rules l.history) (g.R.Disk.seen c.self.inside.rig) in
+      fell_beside l.rules now.rules l.history now.history e (record { moment = c.moment_at-moment.result; what = c.in_ok-what.what }) c.payload_of-payload.result.now c.of.result
+      (g.R.Disk.may_leave c.enter.new.disk) c.enter.ensures.rules c.in-Err-Failed.ensures.err c.of.ensures.entry c.of.ensures.payload (c.enter.ensures.crash here e kept.rests).now,
+)

@@ -6,6 +6,7 @@ use Rattle.delf_model.specs.Step.{after}
 use Rattle.store_laws.specs.Stores.{Clean}
 use Rattle.delf_book.specs.Books.{Booked}
 use Rattle.delf_book.specs.Keeping.{payloads_in}
+use Rattle.delf_book.proofs.Fallen.{fell_alone}
 use Rattle.delf_book.proofs.Held.{rest_as_read}
 use Rattle.delf_book.proofs.Sizes.{journal_in}
 use Rattle.delf_book.proofs.Callings.{settle_safe}
@@ -14,28 +15,32 @@ use Rattle.delf_book.proofs.book.Book.read_edge.Goals as goal
 pub read_edge_at-requires-clause-stands : goal.read_edge_at-requires-clause-stands
 read_edge_at-requires-clause-stands g c = λ plain.
     let l = c.self.inside.ledger in
-    let kept = c.self.invariant c.if-self.false in
+    let kept = c.self.invariant.0 c.if-self.false in
     journal_in l.rules l.history c.self.inside.logs.journal c.self.inside.logs.vault (g.R.Disk.may_leave c.self.inside.rig) kept.logs
     (payloads_in (after l.rules l.history) (g.R.Disk.seen c.self.inside.rig)) (kept.areas plain).rests
 
 pub invariant_of-self : goal.invariant_of-self
-invariant_of-self g c = λ up.
-    let l = c.self.inside.ledger in
-    let base = c.self.invariant c.if-self.false in
-    record {
-      logs = base.logs;
-      carried = base.carried;
-      room = base.room;
-      areas = λ plain.
-          let here = was_plain c.read_edge_at.ensures.kind plain in
-          let kept = base.areas here in
-          let e = payloads_in (after l.rules l.history) (g.R.Disk.seen c.self.inside.rig) in
-          let now = g.met.R.Disk.reads_as_image c.read_edge_at.new.disk plain in
-          record {
-            rests = rest_as_read l.rules l.history e (g.R.Disk.seen c.read_edge_at.new.disk) (g.R.Disk.may_leave c.read_edge_at.new.disk) c.len-len.ensures.legal now (c.read_edge_at.ensures.crash here l.rules l.history e kept.rests).now;
-            clean = subst (λ (areas : Areas). Clean l.rules l.history areas) (sym (c.read_edge_at.ensures.seen here)) kept.clean;
-          };
-    }
+invariant_of-self g c = (
+  λ up.
+      let l = c.self.inside.ledger in
+      let base = c.self.invariant.0 c.if-self.false in
+      record {
+        logs = base.logs;
+        carried = base.carried;
+        room = base.room;
+        areas = λ plain.
+            let here = was_plain c.read_edge_at.ensures.kind plain in
+            let kept = base.areas here in
+            let e = payloads_in (after l.rules l.history) (g.R.Disk.seen c.self.inside.rig) in
+            let now = g.met.R.Disk.reads_as_image c.read_edge_at.new.disk plain in
+            record {
+              rests = rest_as_read l.rules l.history e (g.R.Disk.seen c.read_edge_at.new.disk) (g.R.Disk.may_leave c.read_edge_at.new.disk) c.len-len.ensures.legal now (c.read_edge_at.ensures.crash here l.rules l.history e kept.rests).now;
+              clean = subst (λ (areas : Areas). Clean l.rules l.history areas) (sym (c.read_edge_at.ensures.seen here)) kept.clean;
+            };
+      },
+  c.self.invariant.1,
+  λ down plain. absurd (cc (down, c.if-self.false)),
+)
 
 pub returns-in-Ok-clause-crash : goal.returns-in-Ok-clause-crash
 returns-in-Ok-clause-crash g c = λ plain up e rests.
@@ -52,3 +57,16 @@ returns-in-Err-clause-crash g c = λ plain up e rests.
     subst (λ (b : Booked g.row.G.Denot g.row.R.Denot). Plain (g.R.Disk.told b.rig) (g.R.Disk.honest b.rig)) (sym c.self.view_is) plain in
     settle_safe view c.args.self.now c.self.view_is c.read_edge_at.new.disk g.R.Disk.moment g.R.Disk.may_leave g.R.Disk.left_since
     (c.read_edge_at.ensures.crash here c.self.inside.ledger.rules c.self.inside.ledger.history) e rests
+
+pub invariant_of-self-in-Err : goal.invariant_of-self-in-Err
+invariant_of-self-in-Err g c = (
+  λ up. absurd (cc up),
+  λ up. absurd (cc up),
+  λ down plain.
+      let l = c.self.inside.ledger in
+      let here = was_plain c.read_edge_at.ensures.kind plain in
+      let kept = (c.self.invariant.0 c.if-self.false).areas here in
+      let e = payloads_in (after l.rules l.history) (g.R.Disk.seen c.self.inside.rig) in
+      fell_alone l.rules l.history e c.self.inside.beside (g.R.Disk.may_leave c.read_edge_at.new.disk) c.len-len.ensures.legal (c.self.invariant.1 c.if-self.false)
+      (c.read_edge_at.ensures.crash here l.rules l.history e kept.rests).now,
+)

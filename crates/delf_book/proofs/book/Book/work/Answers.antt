@@ -1,14 +1,17 @@
 use Rattle.std.proofs.Common.{◌≡◌, ℕ, [], max, min, sym, ap, ◌∙◌, subst}
 use Rattle.delf_disk.specs.Moments.{Leaves}
 use Rattle.delf_disk.specs.Plain.{Plain}
+use Rattle.delf_disk.proofs.Flags.{was_plain}
 use Rattle.delf_model.specs.declared.entry.What.{What}
 use Rattle.delf_model.specs.Room.{greatest_moment, moment_of}
 use Rattle.delf_model.specs.Step.{after}
 use Rattle.delf_model.specs.Payloads.{Payloads}
 use Rattle.store_laws.specs.Moves.{RestIn}
 use Rattle.delf_book.specs.Books.{Booked, state_in, IsCrashSafe, IsDurable}
+use Rattle.delf_book.specs.Keeping.{payloads_in}
 use Rattle.delf_book.specs.Steps.{PutsSealed, TellsDamage, step_entry}
 use Rattle.delf_book.specs.Writing.{Rests}
+use Rattle.delf_book.proofs.Fallen.{fell_beside}
 use Rattle.delf_book.proofs.Halts.{at_hurt}
 use Rattle.delf_book.proofs.Workings.{of_first}
 use Rattle.delf_book.proofs.book.Book.work.Goals as goal
@@ -55,3 +58,17 @@ returns-in-Err-Failed-clause-crash g c = λ plain.
     (λ (b : Booked g.row.G.Denot g.row.R.Denot) (k : ℕ) (w : What).
     IsCrashSafe g.R.Disk.moment g.R.Disk.may_leave g.R.Disk.left_since b.rules b.history (step_entry k w) [] b.rig c.step.new.disk)
     (c.step.ensures.crash here)
+
+pub invariant_of-self-in-Err-Failed : goal.invariant_of-self-in-Err-Failed
+invariant_of-self-in-Err-Failed g c = (
+  λ up. absurd (cc up),
+  λ up. absurd (cc up),
+  λ down plain.
+      let l = c.self.inside.ledger in
+      let now = c.step.new.ledger in
+      let here = was_plain c.step.ensures.kind plain in
+      let kept = (c.self.invariant.0 c.if-self.false).areas here in
+      let e = payloads_in (after l.rules l.history) (g.R.Disk.seen c.self.inside.rig) in
+      fell_beside l.rules now.rules l.history now.history e (step_entry c.moment_at-moment.result c.in-Some.what) [] c.of.result
+      (g.R.Disk.may_leave c.step.new.disk) c.step.ensures.rules c.in-Err-Failed.ensures.err c.of.ensures.entry c.of.ensures.payload (c.step.ensures.crash here e kept.rests).now,
+)

@@ -1,0 +1,24 @@
+-- What the disk of a book holds, told of what the book is seen as.
+use Rattle.std.specs.Prelude.{◌≡◌, false, List, Option, Some, None}
+use Rattle.delf_disk.specs.Areas.{Areas}
+use Rattle.delf_model.specs.declared.entry.Entry.{Entry}
+use Rattle.delf_model.specs.RuleSet.{RuleSet}
+use Rattle.delf_model.specs.Payloads.{Payloads}
+use Rattle.store_laws.specs.Stores.{StandBut, Clean}
+use Rattle.store_laws.specs.Moves.{RestIn, StandsFor}
+use Rattle.delf_book.specs.Parts.{Interrupted}
+use Rattle.delf_book.specs.Books.{Booked}
+
+-- these areas stand for a history and its payloads, or for it with what is beside it
+abbrev pub StandsBeside : RuleSet → List Entry → Payloads → Option Interrupted → Areas → Type 0
+StandsBeside rules history e None c = StandBut rules history e c
+StandsBeside rules history e (Some it) c = StandsFor rules history e it.entry it.payload c
+
+-- The disk holds the history and one payload state, or while the book is down, that with the entry beside it.
+pub record Holds {G R : Type 0} (seen : R → Areas) (may_leave : R → Areas → Type 0) (book : Booked G R) : Type 0 where
+  pub payloads : Payloads
+  pub stands : (c : Areas) → may_leave book.rig c → StandsBeside book.rules book.history payloads book.beside c
+  -- while it is up, each image has both marks and one vault record an item
+  pub rests : book.down ≡ false → RestIn book.rules book.history payloads (may_leave book.rig)
+  -- and what reads has nothing more but closed tails
+  pub clean : book.down ≡ false → Clean book.rules book.history (seen book.rig)
