@@ -12,6 +12,7 @@ use Rattle.delf_model.specs.declared.entry.What.{What}
 use Rattle.delf_model.specs.Room.{moment_of}
 use Rattle.delf_model.specs.Reply.{reply}
 use Rattle.delf_book.specs.Books.{Booked, state_in, HasNumbers, given_by, IsCrashSafe, IsDurable}
+use Rattle.delf_book.specs.Seals.{SealsStay}
 use Rattle.delf_book.proofs.Asking.{IsCallEntry, call_entry}
 
 ok_is : (r : Result What Refusal) (a b : What) → Ok a ≡ r → r ≡ Ok b → a ≡ b
@@ -47,6 +48,15 @@ module _ {G R : Type 0} (view book : Booked G R) (is : view ≡ book) (now seat 
         IsDurable may_leave b.rules b.history (record { moment = moment_of (state_in b) now; what = other }) (given_by asked) b.rig new) is
         (λ other at. subst (λ (w : What). P (moment_of (state_in view) now) w (given_by asked)) (same_what other at)
         (subst (λ (k : ℕ). P k what (given_by asked)) m_is (subst (λ (p : List ℕ). P m what p) p_is safe)))
+
+  pub call_seals : (may_leave : R → Areas → Type 0) → SealsStay may_leave view.rules view.history (record { moment = m; what = what }) (given_by asked) view.rig →
+      (other : What) → reply (state_in book) (moment_of (state_in book) now) seat asked ≡ Ok other →
+      SealsStay may_leave book.rules book.history (record { moment = moment_of (state_in book) now; what = other }) (given_by asked) book.rig
+  call_seals may_leave stay =
+      let P : ℕ → What → Type 0 = λ k w. SealsStay may_leave view.rules view.history (record { moment = k; what = w }) (given_by asked) view.rig in
+      subst (λ (b : Booked G R). (other : What) → reply (state_in b) (moment_of (state_in b) now) seat asked ≡ Ok other →
+      SealsStay may_leave b.rules b.history (record { moment = moment_of (state_in b) now; what = other }) (given_by asked) b.rig) is
+      (λ other at. subst (λ (w : What). P (moment_of (state_in view) now) w) (same_what other at) (subst (λ (k : ℕ). P k what) m_is stay))
 
 -- a call that adds no entry
 pub settle_safe : {G R : Type 0} (view book : Booked G R) → view ≡ book → (new : R) (moment : R → ℕ) (may_leave : R → Areas → Type 0) (left_since : R → ℕ → Areas → Type 0) →

@@ -17,5 +17,6 @@ pub mod Settling
 pub mod Sizes
 pub mod Stored
 pub mod Taking
+pub mod Whole
 pub mod Workings
 pub mod Writes

@@ -126,7 +126,8 @@ module _ (rules : RuleSet) (h : List Entry) (e : Payloads) (entry : Entry) (clai
     line = line;
     few = omega arith;
     ahead = λ c image. (has c image).0;
-    one = λ c image. record {
+    one = λ c image spelled. record {
+      entry_spelled = spelled;
       head = refl;
       size = no_size (after rules h) entry.what p takes.position;
       brought = λ own. refl;

@@ -1,13 +1,21 @@
 -- A step's clauses, told of the book that it found.
-use Rattle.std.proofs.Common.{◌≡◌, ℕ, Some, ap, ◌∙◌, subst}
+use Rattle.std.proofs.Common.{◌≡◌, ℕ, true, Some, sym, ap, ◌∙◌, subst}
+use Rattle.std.proofs.lemmas.Bool.{and_parts}
 use Rattle.std.specs.Prelude.{Option}
 use Rattle.delf_model.specs.declared.entry.What.{What}
 use Rattle.delf_model.specs.Room.{moment_of}
-use Rattle.delf_model.specs.Order.{first_step}
+use Rattle.delf_model.specs.State.{State}
+use Rattle.delf_model.specs.Legal.{is_legal}
+use Rattle.delf_model.specs.Order.{is_step, first_step}
+use Rattle.delf_model.specs.Sound.{FirstIsLegal}
 use Rattle.delf_book.specs.Books.{Booked, state_in}
 
 one_step : (o : Option What) (a b : What) → Some a ≡ o → o ≡ Some b → a ≡ b
 one_step o a b one two = cc
+
+-- it is legal
+pub first_line : (s : State) (moment : ℕ) (what : What) → FirstIsLegal s moment → Some what ≡ first_step s moment → is_legal s (record { moment = moment; what = what }) ≡ true
+first_line s moment what first is = (and_parts (is_step what) (is_legal s (record { moment = moment; what = what })) (first.legal what (sym is))).1
 
 -- what holds of the step that was made holds of the first step of the book
 pub of_first : {G R : Type 0} (view book : Booked G R) → view ≡ book → (now m : ℕ) → m ≡ moment_of (state_in view) now → (what : What) → Some what ≡ first_step (state_in view) m →

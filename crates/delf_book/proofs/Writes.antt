@@ -9,7 +9,7 @@ use Rattle.delf_disk.specs.declared.area.Area.TheVariants as area
 use Rattle.gate_log.specs.Records.{Record}
 use Rattle.gate_log.specs.Logs.{StandIn}
 use Rattle.gate_log.specs.Steps.{MayAdd, Adds, MayScrub, Scrubs}
-use Rattle.entry_codec.specs.EntryHead.{entry_head}
+use Rattle.entry_codec.specs.EntryHead.{entry_head, IsEntry}
 use Rattle.delf_model.specs.declared.entry.Entry.{Entry}
 use Rattle.delf_model.specs.RuleSet.{RuleSet}
 use Rattle.delf_model.specs.State.{State}
@@ -30,17 +30,17 @@ use Rattle.store_laws.proofs.Scrubs.{journal_may, journal_scrubs, vault_may, vau
 use Rattle.delf_book.specs.Writing.{Writes, record_of, longer, next_payloads, Rests, IsScrubbed, HasItem}
 
 module _ (rules : RuleSet) (h : List Entry) (e : Payloads) (entry : Entry) (given : List ℕ) (added : List Record) (payload : List ℕ) (images : Areas → Type 0)
-    (writes : Writes rules h e entry given added payload images) (sizes : List (ℕ × ℕ)) (stand : StandIn area.Journal sizes images) where
+    (writes : Writes rules h e entry given added payload images) (spelled : IsEntry entry) (sizes : List (ℕ × ℕ)) (stand : StandIn area.Journal sizes images) where
   pub may_write : (c d : Areas) → images c → MayAdd area.Journal sizes (entry_head entry) payload c d → StandsFor rules h e entry given d
   may_write c d image may =
       let ahead = writes.ahead c image in
-      stands_for rules h e entry given (record_of entry payload) added c d writes.legal writes.line ahead (writes.one c image) (writes.more c image) may.other writes.few
+      stands_for rules h e entry given (record_of entry payload) added c d writes.legal writes.line ahead (writes.one c image spelled) (writes.more c image) may.other writes.few
       (may.here journal_mark (journal_of c) (journal_sizes c sizes (stand c image)) (log_told journal_mark c.journal ahead.journal))
 
   pub written : (c d : Areas) → images c → Adds area.Journal sizes (entry_head entry) payload c d → Rests rules (longer h entry) (next_payloads rules h e entry given) d
   written c d image adds =
       let ahead = writes.ahead c image in
-      with_entry rules h e entry given (record_of entry payload) added c d writes.legal writes.line ahead (writes.one c image) (writes.more c image) adds.other
+      with_entry rules h e entry given (record_of entry payload) added c d writes.legal writes.line ahead (writes.one c image spelled) (writes.more c image) adds.other
       (adds.here journal_mark (journal_of c) (journal_sizes c sizes (stand c image)) (log_told journal_mark c.journal ahead.journal))
 
   -- zeros stand in all that is not needed, but for what the entry leaves to be scrubbed
@@ -51,7 +51,7 @@ module _ (rules : RuleSet) (h : List Entry) (e : Payloads) (entry : Entry) (give
       let told = told_log journal_mark (journal_of c ++ record_of entry payload ∷ []) d.journal
       (adds.here journal_mark (journal_of c) (journal_sizes c sizes (stand c image)) (log_told journal_mark c.journal ahead.journal)) in
       let vaults : vault_of d ≡ vault_for rules h c ++ added = ap held adds.other ∙ ahead.more in
-      let but = remain_after rules h e entry given (journal_of c) (vault_for rules h c) (record_of entry payload) added writes.legal writes.line ahead.hold clean (writes.one c image) (writes.more c image) in
+      let but = remain_after rules h e entry given (journal_of c) (vault_for rules h c) (record_of entry payload) added writes.legal writes.line ahead.hold clean (writes.one c image spelled) (writes.more c image) in
       subst (λ (v : List Record). AreScrubbedBut (after rules (longer h entry)) (scrubbed_by (after rules h) entry.what) (journal_of d) v) (sym vaults)
       (subst (λ (j : List Record). AreScrubbedBut (after rules (longer h entry)) (scrubbed_by (after rules h) entry.what) j (vault_for rules h c ++ added)) (sym told.1) but)
 
@@ -60,7 +60,7 @@ on_ok (Ok x) f a b = f a b
 on_ok (Err x) f a b = tt
 
 module _ (rules : RuleSet) (h : List Entry) (e : Payloads) (entry : Entry) (given : List ℕ) (added : List Record) (payload head : List ℕ) (place : Area) (sizes : List (ℕ × ℕ))
-    (is_journal : place ≡ area.Journal) (is_head : head ≡ entry_head entry) where
+    (is_journal : place ≡ area.Journal) (is_head : head ≡ entry_head entry) (spelled : IsEntry entry) where
   pub may_add : (c d : Areas) → MayAdd place sizes head payload c d → MayAdd area.Journal sizes (entry_head entry) payload c d
   may_add c d may = subst (λ (a : Area). MayAdd a sizes (entry_head entry) payload c d) is_journal (subst (λ (l : List ℕ). MayAdd place sizes l payload c d) is_head may)
 
@@ -71,20 +71,20 @@ module _ (rules : RuleSet) (h : List Entry) (e : Payloads) (entry : Entry) (give
     pub write_leaves : Writes rules h e entry given added payload (may_leave old) → StandIn place sizes (may_leave old) →
         Runs moment may_leave left_since (MayAdd place sizes head payload) old new → Leaves moment may_leave left_since (StandsFor rules h e entry given) old new
     write_leaves writes stand run =
-        leaves_first run (λ c d image may. may_write rules h e entry given added payload (may_leave old) writes sizes
+        leaves_first run (λ c d image may. may_write rules h e entry given added payload (may_leave old) writes spelled sizes
         (subst (λ (a : Area). StandIn a sizes (may_leave old)) is_journal stand) c d image (may_add c d may))
 
   pub write_rests : (before now : Areas → Type 0) → Writes rules h e entry given added payload before → StandIn place sizes before → (seen next : Areas) → before seen →
       Adds place sizes head payload seen next → ((c : Areas) → now c → c ≡ next) → RestIn rules (longer h entry) (next_payloads rules h e entry given) now
   write_rests before now writes stand seen next image adds only = λ c left.
       subst (λ (x : Areas). Rests rules (longer h entry) (next_payloads rules h e entry given) x) (sym (only c left))
-      (written rules h e entry given added payload before writes sizes (subst (λ (a : Area). StandIn a sizes before) is_journal stand) seen next image (adds_there seen next adds))
+      (written rules h e entry given added payload before writes spelled sizes (subst (λ (a : Area). StandIn a sizes before) is_journal stand) seen next image (adds_there seen next adds))
 
   pub write_remains : (before : Areas → Type 0) → Writes rules h e entry given added payload before → StandIn place sizes before → (seen next : Areas) → before seen →
       AreScrubbed (after rules h) (journal_of seen) (vault_for rules h seen) → Adds place sizes head payload seen next →
       AreScrubbedBut (after rules (longer h entry)) (scrubbed_by (after rules h) entry.what) (journal_of next) (vault_of next)
   write_remains before writes stand seen next image clean adds =
-      remains rules h e entry given added payload before writes sizes (subst (λ (a : Area). StandIn a sizes before) is_journal stand) seen next image clean (adds_there seen next adds)
+      remains rules h e entry given added payload before writes spelled sizes (subst (λ (a : Area). StandIn a sizes before) is_journal stand) seen next image clean (adds_there seen next adds)
 
 -- a scrub of a payload that nothing needs
 

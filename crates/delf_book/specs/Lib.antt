@@ -4,6 +4,7 @@ pub mod Holding
 pub mod Keeping
 pub mod Parts
 pub mod Reads
+pub mod Seals
 pub mod Stepping
 pub mod Steps
 pub mod Taken

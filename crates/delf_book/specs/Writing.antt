@@ -2,7 +2,7 @@
 use Rattle.std.specs.Prelude.{◌≡◌, ℕ, ◌≤◌, true, List, [], ◌∷◌, ◌++◌, Option, Some, None, length}
 use Rattle.delf_disk.specs.Areas.{Areas}
 use Rattle.gate_log.specs.Records.{Record}
-use Rattle.entry_codec.specs.EntryHead.{entry_head}
+use Rattle.entry_codec.specs.EntryHead.{entry_head, IsEntry}
 use Rattle.delf_model.specs.declared.entry.Entry.{Entry}
 use Rattle.delf_model.specs.RuleSet.{RuleSet}
 use Rattle.delf_model.specs.Step.{after}
@@ -17,13 +17,13 @@ abbrev pub record_of : Entry → List ℕ → Record
 record_of entry payload = record { head = entry_head entry; payload = payload }
 
 -- The entry may come next, each image has the records of the history and these vault records behind them, and this is
--- the payload of the entry's record.
+-- the payload of the entry's record, where it has a spelling.
 pub record Writes (rules : RuleSet) (history : List Entry) (e : Payloads) (entry : Entry) (given : List ℕ) (added : List Record) (payload : List ℕ) (images : Areas → Type 0) : Type 0 where
   pub legal : Legal rules history
   pub line : is_legal (after rules history) entry ≡ true
   pub few : length added ≤ 1
   pub ahead : (c : Areas) → images c → Ahead rules history e added c
-  pub one : (c : Areas) → images c → IsEntryRecord (after rules history) (vault_for rules history c) entry given (record_of entry payload)
+  pub one : (c : Areas) → images c → IsEntry entry → IsEntryRecord (after rules history) (vault_for rules history c) entry given (record_of entry payload)
   pub more : (c : Areas) → images c → AreItemRecords (after rules history) (journal_of c) (vault_for rules history c) entry.what added
 
 -- the history and the payloads with the entry

@@ -3,6 +3,7 @@ ghost use Rattle.std.specs.Prelude.{◌+◌, ◌*◌, ◌≤◌, length};
 ghost use Rattle.delf_disk.specs.Plain.{Plain, SameKind};
 ghost use Rattle.delf_model.specs.Room.{moment_of};
 ghost use Rattle.delf_book.specs.Books.{Answers, CallIsSafe, CountsRefusal, HasNumbers, state_in};
+ghost use Rattle.delf_book.specs.Seals.{CallKeepsSeals};
 
 use crate::answers::Receipt;
 use crate::beside::Beside;
@@ -22,13 +23,14 @@ impl<G: GraphStore, R: Rig> Book<G, R> {
         ensures answer { Answers self.old self.new (moment_of (state_in self.old) now) seat call.now result }
         ensures crash { Plain (R.Disk.told self.old.rig) (R.Disk.honest self.old.rig)
             → CallIsSafe R.Disk.moment R.Disk.may_leave R.Disk.left_since self.old self.new (moment_of (state_in self.old) now) seat call.now result }
+        ensures seals { Plain (R.Disk.told self.old.rig) (R.Disk.honest self.old.rig)
+            → CallKeepsSeals R.Disk.may_leave self.old (moment_of (state_in self.old) now) seat call.now result }
         ensures kind { SameKind R.Disk.told R.Disk.honest R.Disk.order R.Disk.orders self.old.rig self.new.rig }
         ensures cause { CountsRefusal (R.Disk.faults self.old.rig) (R.Disk.faults self.new.rig) result }
     {
+        let len = self.ledger.len();
         if self.down {
-            return Err(Refusal::Down {
-                len: self.ledger.len(),
-            });
+            return Err(Refusal::Down { len });
         }
         let _kinds = self.ledger.rules().objects_len();
         let moment = moment_at(self.ledger.moment(), now);

@@ -4,6 +4,7 @@ ghost use Rattle.delf_disk.specs.Plain.{Plain, SameKind};
 ghost use Rattle.delf_model.specs.Room.{moment_of};
 ghost use Rattle.delf_model.specs.Sound.{FirstIsLegal};
 ghost use Rattle.delf_book.specs.Books.{state_in};
+ghost use Rattle.delf_book.specs.Seals.{StepKeepsSeals};
 ghost use Rattle.delf_book.specs.Steps.{StepAnswers, StepIsSafe, CountsStep};
 
 use crate::answers::{StepFault, Worked};
@@ -16,12 +17,15 @@ use ledger::moment_at;
 
 impl<G: GraphStore, R: Rig> Book<G, R> {
     /// Makes the first step of the serial order, where the clock says `now`: an expiry, a cut, an erasure, a put or a
-    /// purge. `Idle` comes exactly where no step is legal at this moment.
+    /// purge. `Idle` comes exactly where no step is legal at this moment, and `Damaged` never over a store that stands
+    /// whole.
     pub fn work(&mut self, now: Moment) -> Result<Worked, StepFault>
         ensures answer { StepAnswers self.old self.new (moment_of (state_in self.old) now) result }
         ensures order { self.old.down ≡ false → FirstIsLegal (state_in self.old) (moment_of (state_in self.old) now) }
         ensures crash { Plain (R.Disk.told self.old.rig) (R.Disk.honest self.old.rig)
             → StepIsSafe R.Disk.moment R.Disk.may_leave R.Disk.left_since self.old self.new (moment_of (state_in self.old) now) result }
+        ensures seals { Plain (R.Disk.told self.old.rig) (R.Disk.honest self.old.rig)
+            → StepKeepsSeals R.Disk.may_leave self.old (moment_of (state_in self.old) now) result }
         ensures kind { SameKind R.Disk.told R.Disk.honest R.Disk.order R.Disk.orders self.old.rig self.new.rig }
         ensures cause { CountsStep (R.Disk.faults self.old.rig) (R.Disk.faults self.new.rig) result }
     {

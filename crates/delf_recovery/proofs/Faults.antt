@@ -21,7 +21,6 @@ use Rattle.delf_model.specs.Payloads.{Payloads}
 use Rattle.store_laws.specs.Logged.{held, IsArea}
 use Rattle.store_laws.specs.Stores.{StandBut, vault_mark, head_in, length_in, seal_in, seals_of, item_heads, logged_size}
 use Rattle.store_laws.proofs.Spelled.{log_told}
-use Rattle.entry_codec.specs.EntryHead.{AreEntries}
 use Rattle.opening_laws.specs.Places.{Begins, IsRecordOfItem, AreRecordsOfItems, IsBadItem, Broken, WrongItem, Fewer, TwoMore, BadVault, BadPlace, ReadsJournal}
 use Rattle.opening_laws.proofs.Fronts.{GoesOn, fronts, NextRecord, next_or_same, not_foreign, same_fronts}
 use Rattle.opening_laws.proofs.Bad.{journal_reads_well, one_reading, one_place}
@@ -191,10 +190,10 @@ journal_bad rules c DiskFault shows = tt
 journal_bad rules c OutOfMemory shows = tt
 journal_bad rules c (BadStore it at) shows = subst (λ (a : Area). BadPlace rules c a at) (sym shows.0) shows.1
 
-pub journal_never : (rules : RuleSet) (h : List Entry) (e : Payloads) (c : Areas) (fault : OpenFault) → AreEntries h → StandBut rules h e c → ShowsBadJournal rules c.journal fault → IsNotBad fault
-journal_never rules h e c DiskFault all but shows = tt
-journal_never rules h e c OutOfMemory all but shows = tt
-journal_never rules h e c (BadStore it at) all but shows = journal_reads_well rules h c.journal at (stand_reads rules h e c all but) shows.1
+pub journal_never : (rules : RuleSet) (h : List Entry) (e : Payloads) (c : Areas) (fault : OpenFault) → StandBut rules h e c → ShowsBadJournal rules c.journal fault → IsNotBad fault
+journal_never rules h e c DiskFault but shows = tt
+journal_never rules h e c OutOfMemory but shows = tt
+journal_never rules h e c (BadStore it at) but shows = journal_reads_well rules h c.journal at (stand_reads rules h e c but) shows.1
 
 -- and of the vault
 pub vault_bad : (rules : RuleSet) (h : List Entry) (c : Areas) (fault : OpenFault) → ReadsJournal rules h c.journal → ShowsFaulty (after rules h).items c.vault fault → IsBadAt rules c fault
@@ -202,12 +201,12 @@ vault_bad rules h c DiskFault reads shows = tt
 vault_bad rules h c OutOfMemory reads shows = tt
 vault_bad rules h c (BadStore it at) reads shows = subst (λ (a : Area). BadPlace rules c a at) (sym shows.0) (h, reads, faulty_bad (after rules h).items c.vault at shows.1)
 
-pub vault_never : (rules : RuleSet) (h g : List Entry) (e : Payloads) (c : Areas) (fault : OpenFault) → ReadsJournal rules h c.journal → AreEntries g → StandBut rules g e c →
+pub vault_never : (rules : RuleSet) (h g : List Entry) (e : Payloads) (c : Areas) (fault : OpenFault) → ReadsJournal rules h c.journal → StandBut rules g e c →
     ShowsFaulty (after rules h).items c.vault fault → IsNotBad fault
-vault_never rules h g e c DiskFault reads all but shows = tt
-vault_never rules h g e c OutOfMemory reads all but shows = tt
-vault_never rules h g e c (BadStore it at) reads all but shows =
-    let same : h ≡ g = one_reading rules h g c.journal reads (stand_reads rules g e c all but) in
+vault_never rules h g e c DiskFault reads but shows = tt
+vault_never rules h g e c OutOfMemory reads but shows = tt
+vault_never rules h g e c (BadStore it at) reads but shows =
+    let same : h ≡ g = one_reading rules h g c.journal reads (stand_reads rules g e c but) in
     stand_not_faulty rules g e c at but (subst (λ (l : List Entry). FaultyVault (after rules l).items c.vault at) same shows.1)
 
 -- the one place that is told

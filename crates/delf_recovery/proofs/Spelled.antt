@@ -78,8 +78,8 @@ held_bounded mark bytes area = by_blank (is_blank bytes) refl
         by_size (inr many) = absurd (let few = leb-true (length bytes) 9 is in omega (arith, few, many))
     by_blank false is = (log_told mark bytes (area is)).bounded
 
-pub reads_stand : (rules : RuleSet) (h : List Entry) (c : Areas) → Legal rules h → ReadsJournal rules h c.journal → ReadsVault (after rules h).items c.vault → (e : Payloads) × StandBut rules h e c
-reads_stand rules h c legal journal vault =
+pub reads_stand : (rules : RuleSet) (h : List Entry) (c : Areas) → Legal rules h → AreEntries h → ReadsJournal rules h c.journal → ReadsVault (after rules h).items c.vault → (e : Payloads) × StandBut rules h e c
+reads_stand rules h c legal entries journal vault =
     let n = length (after rules h).items in
     let vs = take (length (after rules h).items) (held c.vault) in
     let long : length (take (length (after rules h).items) (held c.vault)) ≡ length (after rules h).items = length_take (held c.vault) (length (after rules h).items) vault.some in
@@ -89,7 +89,7 @@ reads_stand rules h c legal journal vault =
     let log : Log vault_mark (take (length (after rules h).items) (held c.vault)) (vault_mark ++ spelled_records (take (length (after rules h).items) (held c.vault)) ++ 0 ∷ []) =
     record { eight = refl; bounded = bounded_front (held c.vault) n (held_bounded vault_mark c.vault vault.vault); gate = 0; closed = omega arith; tail = []; split = refl } in
     let same = (told_log vault_mark vs cut log).1 in
-    let spell : Spell rules h (journal_of c) (take (length (after rules h).items) (held c.vault)) = record { heads = told.0; sizes = told.1; items = item.0; item_sizes = item.1 } in
+    let spell : Spell rules h (journal_of c) (take (length (after rules h).items) (held c.vault)) = record { entries = entries; heads = told.0; sizes = told.1; items = item.0; item_sizes = item.1 } in
     let beside : Areas = record { journal = c.journal; vault = cut } in
     let hold = holds_itself rules h beside legal (subst (Spell rules h (journal_of c)) (sym same) spell) in (
       payloads_in (after rules h) beside,
@@ -150,8 +150,8 @@ records_of rules done (e ∷ es) (r ∷ rs) before all legal heads sizes =
     (ap (λ (x : State). is_legal_from x es) next ∙ both.1) other_heads (other_sizes ∙ ap (λ (x : State). record_sizes x es) (sym next)) in
     (one, subst (λ (x : State). AreRecordsOf x es rs) next rest)
 
-pub stand_reads : (rules : RuleSet) (h : List Entry) (e : Payloads) (c : Areas) → AreEntries h → StandBut rules h e c → ReadsJournal rules h c.journal
-stand_reads rules h e c all but = record {
+pub stand_reads : (rules : RuleSet) (h : List Entry) (e : Payloads) (c : Areas) → StandBut rules h e c → ReadsJournal rules h c.journal
+stand_reads rules h e c but = record {
   journal = but.journal;
-  records = records_of rules [] h (journal_of c) tt all but.legal but.hold.spell.heads but.hold.spell.sizes;
+  records = records_of rules [] h (journal_of c) tt but.hold.spell.entries but.legal but.hold.spell.heads but.hold.spell.sizes;
 }

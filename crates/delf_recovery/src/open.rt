@@ -12,7 +12,6 @@ ghost use Rattle.delf_model.specs.Payloads.{Payloads};
 ghost use Rattle.delf_model.specs.Sound.{Sound};
 ghost use Rattle.store_laws.specs.Stores.{StandBut, Clean};
 ghost use Rattle.store_laws.specs.Moves.{RestIn};
-ghost use Rattle.entry_codec.specs.EntryHead.{AreEntries};
 ghost use Rattle.opening_laws.specs.Places.{BadPlace};
 ghost use Rattle.delf_recovery.specs.Opening.{rig_in, StandsNow, IsNotBad, IsBadAt, OnlyBad, StaysUnwritten, CountsOpening};
 
@@ -49,7 +48,7 @@ pub fn open_book<G: GraphStore + Drop, R: Rig>(
     ensures found { IfOk result (λ book. Plain (R.Disk.told rig) (R.Disk.honest rig)
         → StandsNow rules book.history (R.Disk.seen rig)) }
     ensures opened { IfOk result (λ book. Plain (R.Disk.told rig) (R.Disk.honest rig) → (history : List Entry) (e : Payloads)
-        → AreEntries history → StandBut rules history e (R.Disk.seen rig)
+        → StandBut rules history e (R.Disk.seen rig)
         → (book.history ≡ history) × RestIn rules history e (R.Disk.may_leave book.rig)) }
     // No payload is left that is not needed, but behind closed gates.
     ensures clean { IfOk result (λ book. Plain (R.Disk.told rig) (R.Disk.honest rig) → (c : Areas)
@@ -60,11 +59,11 @@ pub fn open_book<G: GraphStore + Drop, R: Rig>(
     ensures bad_told { Plain (R.Disk.told rig) (R.Disk.honest rig) → (area : AnArea) (at : ℕ)
         → BadPlace rules (R.Disk.seen rig) area at → OnlyBad area at result }
     ensures never { Plain (R.Disk.told rig) (R.Disk.honest rig) → (history : List Entry) (e : Payloads)
-        → AreEntries history → StandBut rules history e (R.Disk.seen rig) → IfErr result (λ it. IsNotBad it.0) }
+        → StandBut rules history e (R.Disk.seen rig) → IfErr result (λ it. IsNotBad it.0) }
 
     // Whatever a crash leaves meanwhile stands for the same, but for what it might have left before.
     ensures crash { Plain (R.Disk.told rig) (R.Disk.honest rig) → (history : List Entry) (e : Payloads)
-        → AreEntries history → StandBut rules history e (R.Disk.seen rig)
+        → StandBut rules history e (R.Disk.seen rig)
         → Leaves R.Disk.moment R.Disk.may_leave R.Disk.left_since
         (λ c. R.Disk.may_leave rig c ⊎ StandBut rules history e c) rig (rig_in result) }
     ensures unwritten { Plain (R.Disk.told rig) (R.Disk.honest rig)

@@ -12,7 +12,6 @@ ghost use Rattle.delf_model.specs.Payloads.{Payloads};
 ghost use Rattle.delf_book.specs.Keeping.{KeepsLogs, KeepsAreas};
 ghost use Rattle.store_laws.specs.Stores.{StandBut, Clean};
 ghost use Rattle.store_laws.specs.Moves.{RestIn};
-ghost use Rattle.entry_codec.specs.EntryHead.{AreEntries};
 ghost use Rattle.opening_laws.specs.Places.{BadPlace};
 ghost use Rattle.delf_recovery.specs.Opening.{StandsNow, IsBadAt, IsNotBad};
 ghost use Rattle.delf_recovery.specs.Reading.{CountsRead, TellsPlace, IsJournals};
@@ -52,7 +51,7 @@ pub(crate) fn open_parts<G: GraphStore + Drop, D: Disk>(
         → KeepsAreas rules parts.fold.history (D.seen disk.new) (D.may_leave disk.new)) }
     ensures found { IfOk result (λ parts. Plain (D.told disk.old) (D.honest disk.old) → StandsNow rules parts.fold.history (D.seen disk.old)) }
     ensures opened { IfOk result (λ parts. Plain (D.told disk.old) (D.honest disk.old) → (history : List Entry) (e : Payloads)
-        → AreEntries history → StandBut rules history e (D.seen disk.old)
+        → StandBut rules history e (D.seen disk.old)
         → (parts.fold.history ≡ history) × RestIn rules history e (D.may_leave disk.new)) }
     ensures clean { IfOk result (λ parts. Plain (D.told disk.old) (D.honest disk.old) → (c : Areas)
         → D.may_leave disk.new c → Clean rules parts.fold.history c) }
@@ -63,10 +62,10 @@ pub(crate) fn open_parts<G: GraphStore + Drop, D: Disk>(
     ensures told { IfErr result (λ fault. Plain (D.told disk.old) (D.honest disk.old) → (area : AnArea) (at : ℕ)
         → BadPlace rules (D.seen disk.old) area at → TellsPlace area at fault) }
     ensures never { IfErr result (λ fault. Plain (D.told disk.old) (D.honest disk.old) → (history : List Entry) (e : Payloads)
-        → AreEntries history → StandBut rules history e (D.seen disk.old) → IsNotBad fault) }
+        → StandBut rules history e (D.seen disk.old) → IsNotBad fault) }
 
     ensures crash { Plain (D.told disk.old) (D.honest disk.old) → (history : List Entry) (e : Payloads)
-        → AreEntries history → StandBut rules history e (D.seen disk.old)
+        → StandBut rules history e (D.seen disk.old)
         → Leaves D.moment D.may_leave D.left_since (λ c. D.may_leave disk.old c ⊎ StandBut rules history e c) disk.old disk.new }
     ensures unwritten { IfErr result (λ fault. IsJournals fault → Plain (D.told disk.old) (D.honest disk.old) → D.seen disk.new ≡ D.seen disk.old) }
     ensures unchanged { IfErr result (λ fault. IsJournals fault → Plain (D.told disk.old) (D.honest disk.old) → (c : Areas)

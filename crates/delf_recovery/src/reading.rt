@@ -15,7 +15,6 @@ ghost use Rattle.delf_model.specs.Payloads.{Payloads};
 ghost use Rattle.ledger.specs.Ledgers.{state_of};
 ghost use Rattle.delf_book.specs.Keeping.{journal_sizes};
 ghost use Rattle.store_laws.specs.Stores.{StandBut, vault_of};
-ghost use Rattle.entry_codec.specs.EntryHead.{AreEntries};
 ghost use Rattle.opening_laws.specs.Places.{BadPlace, ReadsJournal};
 ghost use Rattle.delf_recovery.specs.Opening.{StandsNow, IsBadAt, IsNotBad};
 ghost use Rattle.delf_recovery.specs.Mending.{Standing};
@@ -61,7 +60,7 @@ pub(crate) fn read_areas<G: GraphStore, D: Disk>(
 
     ensures bad { IfErr result (λ fault. Plain (D.told disk.old) (D.honest disk.old) → IsBadAt fold.old.rules (D.seen disk.old) fault) }
     ensures never { IfErr result (λ fault. Plain (D.told disk.old) (D.honest disk.old) → (history : List Entry) (e : Payloads)
-        → AreEntries history → StandBut fold.old.rules history e (D.seen disk.old) → IsNotBad fault) }
+        → StandBut fold.old.rules history e (D.seen disk.old) → IsNotBad fault) }
     ensures unwritten { IfErr result (λ fault. IsJournals fault → Plain (D.told disk.old) (D.honest disk.old) → D.seen disk.new ≡ D.seen disk.old) }
     ensures unchanged { IfErr result (λ fault. IsJournals fault → Plain (D.told disk.old) (D.honest disk.old) → Only (D.seen disk.old) (D.may_leave disk.new)) }
     ensures crash { Plain (D.told disk.old) (D.honest disk.old) → (rules : RuleSet) (history : List Entry) (e : Payloads)

@@ -71,9 +71,9 @@ same_entries s (a ∷ h) (b ∷ g) one two heads sizes =
     let rest : h ≡ g = same_entries (step s a) h g one.1 two.1 rest_heads (rest_sizes ∙ ap (λ (x : Entry). record_sizes (step s x) g) (sym first)) in
     ap (λ (x : Entry). x ∷ h) first ∙ ap (λ (l : List Entry). b ∷ l) rest
 
-pub one_history : (rules : RuleSet) (h g : List Entry) (d e : Payloads) (c : Areas) → AreEntries h → AreEntries g → StandBut rules h d c → StandBut rules g e c → h ≡ g
-one_history rules h g d e c first second one two =
-    same_entries (start rules) h g first second (sym one.hold.spell.heads ∙ two.hold.spell.heads) (sym one.hold.spell.sizes ∙ two.hold.spell.sizes)
+pub one_history : (rules : RuleSet) (h g : List Entry) (d e : Payloads) (c : Areas) → StandBut rules h d c → StandBut rules g e c → h ≡ g
+one_history rules h g d e c one two =
+    same_entries (start rules) h g one.hold.spell.entries two.hold.spell.entries (sym one.hold.spell.heads ∙ two.hold.spell.heads) (sym one.hold.spell.sizes ∙ two.hold.spell.sizes)
 
 pub one_payloads : (rules : RuleSet) (h : List Entry) (d e : Payloads) (c : Areas) → StandBut rules h d c → StandBut rules h e c → SamePayloads d e
 one_payloads rules h d e c one two = record {

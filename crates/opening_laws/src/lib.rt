@@ -10,7 +10,6 @@ ghost use Rattle.delf_disk.specs.Images.{Torn};
 ghost use Rattle.gate_log.specs.Records.{Record, size_of};
 ghost use Rattle.gate_log.specs.Opening.{Starts};
 ghost use Rattle.gate_log.specs.Steps.{MayDrop, Drops, MaySettle, Settles};
-ghost use Rattle.entry_codec.specs.EntryHead.{AreEntries};
 ghost use Rattle.delf_model.specs.declared.entry.Entry.{Entry};
 ghost use Rattle.delf_model.specs.RuleSet.{RuleSet};
 ghost use Rattle.delf_model.specs.Step.{after};
@@ -85,10 +84,10 @@ pub fn areas_start()
         → StandBut rules history e d × IsLog vault_mark d.vault × (map size_of (vault_of d) ≡ sizes) × (d.journal ≡ c.journal) × (vault_of d ≡ vault_of c) }
 {}
 
-/// Areas stand for one history of entries that have a spelling, and with it for one payload at each position and one seal of
+/// Areas stand for one history, and with it for one payload at each position and one seal of
 /// each item.
 pub fn one_history_stands()
-    ensures history { (rules : RuleSet) (h g : List Entry) (d e : Payloads) (c : Areas) → AreEntries h → AreEntries g
+    ensures history { (rules : RuleSet) (h g : List Entry) (d e : Payloads) (c : Areas)
         → StandBut rules h d c → StandBut rules g e c → h ≡ g }
     ensures payloads { (rules : RuleSet) (h : List Entry) (d e : Payloads) (c : Areas)
         → StandBut rules h d c → StandBut rules h e c → SamePayloads d e }

@@ -14,7 +14,7 @@ use Rattle.script_runner.specs.Outcomes.{RunCause, IsBad}
 
 not_bad : (plain : Type 0) (rules other : RuleSet) (seen : Areas) (area : Area) (at : ℕ) → rules ≡ other → plain → IsStore other seen → (plain → IsBad rules seen area at) → ⊥
 not_bad plain rules other seen area at same is store bad =
-    (bad is).stands_not store.history store.payloads store.entries (subst (λ (r : RuleSet). StandBut r store.history store.payloads seen) (sym same) store.stands)
+    (bad is).stands_not store.history store.payloads (subst (λ (r : RuleSet). StandBut r store.history store.payloads seen) (sym same) store.stands)
 
 module _ (plain : Type 0) (seen : Areas) (told : Bool) (left : List ℕ) (read_rose write_rose rig_rose : Type 0) (quiet : IsQuiet read_rose write_rose rig_rose) where
   pub ends_well : (request : Option Request) (status : Status) →

@@ -8,7 +8,6 @@ use Rattle.delf_model.specs.declared.script.Command.{Command}
 use Rattle.delf_model.specs.RuleSet.{RuleSet}
 use Rattle.delf_model.specs.Room.{greatest_moment}
 use Rattle.delf_model.specs.Payloads.{Payloads}
-use Rattle.entry_codec.specs.EntryHead.{AreEntries}
 use Rattle.store_laws.specs.Stores.{StandBut}
 use Rattle.store_laws.specs.Moves.{RestIn}
 use Rattle.delf_book.specs.Books.{Booked}
@@ -32,7 +31,7 @@ pub found_stands : {G R : Type 0} → (may_leave : R → Areas → Type 0) (rule
     book.beside ≡ None → Found may_leave rules seen book → (now : StandsNow rules book.history seen) → StandsOn (world_of book clock now.payloads) (may_leave book.rig)
 found_stands {G} {R} may_leave rules seen book clock rules_are up alone found now =
     up_stands (world_of book clock now.payloads) (may_leave book.rig) up alone
-    (subst (λ (r : RuleSet). RestIn r book.history now.payloads (may_leave book.rig)) (sym rules_are) (found book.history now.payloads now.entries now.stand).1)
+    (subst (λ (r : RuleSet). RestIn r book.history now.payloads (may_leave book.rig)) (sym rules_are) (found book.history now.payloads now.stand).1)
 
 pub found_opens : {G R : Type 0} → (rules : RuleSet) (seen : Areas) (book : Booked G R) (clock moment : ℕ) → book.rules ≡ rules → book.down ≡ false →
     book.beside ≡ None → clock ≡ min moment greatest_moment → (now : StandsNow rules book.history seen) → Opens rules moment seen (world_of book clock now.payloads)
@@ -76,15 +75,15 @@ counts_stop before now fault.OutOfMemory counts = record { later = omega (arith,
 counts_stop before now (fault.BadStore area at) counts = record { later = omega (arith, counts); failed = λ is. absurd (cc is) }
 
 pub bad_is : (rules : RuleSet) (seen : Areas) (it : OpenFault) (area : Area) (at : ℕ) → it ≡ fault.BadStore area at → IsBadAt rules seen it →
-    ((history : List Entry) (e : Payloads) → AreEntries history → StandBut rules history e seen → IsNotBad it) → IsBad rules seen area at
+    ((history : List Entry) (e : Payloads) → StandBut rules history e seen → IsNotBad it) → IsBad rules seen area at
 bad_is rules seen it area at is bad never = record {
   place = subst (IsBadAt rules seen) is bad;
-  stands_not = subst (λ (f : OpenFault). (history : List Entry) (e : Payloads) → AreEntries history → StandBut rules history e seen → IsNotBad f) is never;
+  stands_not = subst (λ (f : OpenFault). (history : List Entry) (e : Payloads) → StandBut rules history e seen → IsNotBad f) is never;
 }
 
 pub unopened_text : (rules : RuleSet) (moment : ℕ) (seen : Areas) (old : Areas → Type 0) (start now : ℕ) (images : Areas → Type 0) (before after : List ℕ) (runs : World → Status → Type 0) (it : OpenFault)
     (write_rose : Type 0) (status : Status) → StopCounts start now it → StillStands rules seen old images → IsBadAt rules seen it →
-    ((history : List Entry) (e : Payloads) → AreEntries history → StandBut rules history e seen → IsNotBad it) → UnopenedText it before after status →
+    ((history : List Entry) (e : Payloads) → StandBut rules history e seen → IsNotBad it) → UnopenedText it before after status →
     UnopenedCause it 0 write_rose status → OpenedText rules moment seen old start now images before after runs status
 unopened_text rules moment seen old start now images before after runs it write_rose Done counts still bad never text cause = absurd text
 unopened_text rules moment seen old start now images before after runs it write_rose Usage counts still bad never text cause = absurd text

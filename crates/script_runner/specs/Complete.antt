@@ -5,7 +5,6 @@ use Rattle.delf_disk.specs.Areas.{Areas}
 use Rattle.delf_model.specs.declared.entry.Entry.{Entry}
 use Rattle.delf_model.specs.RuleSet.{RuleSet}
 use Rattle.delf_model.specs.Payloads.{Payloads}
-use Rattle.entry_codec.specs.EntryHead.{AreEntries}
 use Rattle.store_laws.specs.Stores.{StandBut}
 use Rattle.documents.specs.declared.document.Document.{Document}
 use Rattle.script_runner.specs.declared.status.Status.{Status}
@@ -30,7 +29,6 @@ pub record IsQuiet (read_rose write_rose rig_rose : Type 0) : Type 0 where
 pub record IsStore (rules : RuleSet) (seen : Areas) : Type 0 where
   pub history : List Entry
   pub payloads : Payloads
-  pub entries : AreEntries history
   pub stands : StandBut rules history payloads seen
 
 -- by what the words ask for; `stands` says that the store stands under the document's rules

@@ -14,7 +14,6 @@ use Rattle.delf_model.specs.RuleSet.{RuleSet}
 use Rattle.delf_model.specs.Legal.{Legal}
 use Rattle.delf_model.specs.Payloads.{Payloads}
 use Rattle.delf_model.specs.Sound.{Sound}
-use Rattle.entry_codec.specs.EntryHead.{AreEntries}
 use Rattle.store_laws.specs.Stores.{StandBut, Settled}
 use Rattle.store_laws.specs.Moves.{RestIn}
 use Rattle.opening_laws.specs.Places.{BadPlace}
@@ -109,7 +108,7 @@ ScriptText schema first commands start now images before after (BadStore area at
 -- Why the first opening found no store: a place is bad. Nothing that the areas may stand for has one.
 pub record IsBad (rules : RuleSet) (seen : Areas) (area : Area) (at : ℕ) : Type 0 where
   pub place : BadPlace rules seen area at
-  pub stands_not : (history : List Entry) (e : Payloads) → AreEntries history → StandBut rules history e seen → ⊥
+  pub stands_not : (history : List Entry) (e : Payloads) → StandBut rules history e seen → ⊥
 
 abbrev pub bad_text : Area → ℕ → List ℕ
 bad_text Journal at = bad_journal_text at
@@ -118,7 +117,7 @@ bad_text Vault at = bad_vault_text at
 -- after a first opening that failed the disk stands for what read at the start
 abbrev pub StillStands : RuleSet → Areas → (Areas → Type 0) → (Areas → Type 0) → Type 0
 StillStands rules seen first images =
-    (history : List Entry) (e : Payloads) → AreEntries history → StandBut rules history e seen → (c : Areas) → images c →
+    (history : List Entry) (e : Payloads) → StandBut rules history e seen → (c : Areas) → images c →
     first c ⊎ StandBut rules history e c
 
 -- the opening found a world, of which this holds

@@ -8,7 +8,6 @@ ghost use Rattle.delf_model.specs.Checked.{IsSpellable, numbered};
 ghost use Rattle.job_report.specs.Texts.{opened_text};
 ghost use Rattle.delf_model.specs.Room.{greatest_moment};
 ghost use Rattle.delf_model.specs.Payloads.{Payloads};
-ghost use Rattle.entry_codec.specs.EntryHead.{AreEntries};
 ghost use Rattle.store_laws.specs.Stores.{StandBut};
 ghost use Rattle.store_laws.specs.Moves.{RestIn};
 ghost use Rattle.delf_recovery.specs.Opening.{StandsNow, IsNotBad, IsBadAt};
@@ -43,13 +42,13 @@ impl<R: Rig> Store<R> {
         ensures found { IfOk result (λ store. Plain (R.Disk.told rig) (R.Disk.honest rig)
             → StandsNow rules store.book.history (R.Disk.seen rig)) }
         ensures opened { IfOk result (λ store. Plain (R.Disk.told rig) (R.Disk.honest rig) → (history : List Entry) (e : Payloads)
-            → AreEntries history → StandBut rules history e (R.Disk.seen rig)
+            → StandBut rules history e (R.Disk.seen rig)
             → (store.book.history ≡ history) × RestIn rules history e (R.Disk.may_leave store.book.rig)) }
         ensures bad { IfErr result (λ it. Plain (R.Disk.told rig) (R.Disk.honest rig) → IsBadAt rules (R.Disk.seen rig) it.0) }
         ensures never { IfErr result (λ it. Plain (R.Disk.told rig) (R.Disk.honest rig) → (history : List Entry) (e : Payloads)
-            → AreEntries history → StandBut rules history e (R.Disk.seen rig) → IsNotBad it.0) }
+            → StandBut rules history e (R.Disk.seen rig) → IsNotBad it.0) }
         ensures held { IfErr result (λ it. Plain (R.Disk.told rig) (R.Disk.honest rig) → (history : List Entry) (e : Payloads)
-            → AreEntries history → StandBut rules history e (R.Disk.seen rig) → (c : Areas) → R.Disk.may_leave it.1 c
+            → StandBut rules history e (R.Disk.seen rig) → (c : Areas) → R.Disk.may_leave it.1 c
             → R.Disk.may_leave rig c ⊎ StandBut rules history e c) }
         ensures ok_kind { IfOk result (λ store. SameKind R.Disk.told R.Disk.honest R.Disk.order R.Disk.orders rig store.book.rig) }
         ensures err_kind { IfErr result (λ it. SameKind R.Disk.told R.Disk.honest R.Disk.order R.Disk.orders rig it.1) }

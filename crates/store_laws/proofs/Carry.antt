@@ -17,7 +17,7 @@ use Rattle.delf_model.proofs.Runs.{after_push}
 use Rattle.delf_model.proofs.Lines.{allowed_of}
 use Rattle.delf_model.proofs.Good.{good_after}
 use Rattle.gate_log.specs.Records.{Record}
-use Rattle.entry_codec.specs.EntryHead.{entry_head}
+use Rattle.entry_codec.specs.EntryHead.{entry_head, AreEntries, IsEntry}
 use Rattle.payload_laws.specs.Holders.{brings, position_taken, Carried, Stays, Brought, Taken, PutBack, PayloadsMove, PositionsHeld}
 use Rattle.payload_laws.proofs.Moves.{payloads_held}
 use Rattle.store_laws.specs.Stores.{digest, head_in, length_in, seal_in, seals_of, payload_in, record_sizes, item_heads, logged_size, Spell, Hold}
@@ -214,9 +214,14 @@ module _ (s : State) (w : What) (journal vault added : List Record) (more : AreI
       (sym (map-append logged_size (take (length s.items) (items_after s w)) (new_items s w)) ∙
       ap (map logged_size) (sym (items_split s w)))))
 
+pub entries_push : (h : List Entry) (entry : Entry) → AreEntries h → IsEntry entry → AreEntries (h ++ entry ∷ [])
+entries_push [] entry all one = (one, tt)
+entries_push (x ∷ xs) entry all one = (all.0, entries_push xs entry all.1 one)
+
 spell_on : (rules : RuleSet) (h : List Entry) (entry : Entry) (given : List ℕ) (journal vault : List Record) (r : Record) (added : List Record) → Spell rules h journal vault →
     IsEntryRecord (after rules h) vault entry given r → AreItemRecords (after rules h) journal vault entry.what added → Spell rules (h ++ entry ∷ []) (journal ++ r ∷ []) (vault ++ added)
 spell_on rules h entry given journal vault r added spell one more = record {
+  entries = entries_push h entry spell.entries one.entry_spelled;
   heads = map-append head_in journal (r ∷ []) ∙ (ap (λ (l : List (List ℕ)). l ++ r.head ∷ []) spell.heads ∙
       (ap (λ (l : List ℕ). map entry_head h ++ l ∷ []) one.head ∙ sym (map-append entry_head h (entry ∷ []))));
   sizes = map-append length_in journal (r ∷ []) ∙ (ap (λ (l : List ℕ). l ++ length r.payload ∷ []) spell.sizes ∙

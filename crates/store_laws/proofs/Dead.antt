@@ -21,6 +21,7 @@ pub journal_dead : (rules : RuleSet) (h : List Entry) (e : Payloads) (journal va
     Hold rules h e journal vault → (IsLive (after rules h) (Journal i) → ⊥) → length payload ≡ length (payload_of journal i) → Hold rules h e (replaced journal i payload) vault
 journal_dead rules h e journal vault i payload hold dead same = record {
   spell = record {
+    entries = hold.spell.entries;
     heads = replaced_heads (λ (l : List ℕ). l) journal i payload ∙ hold.spell.heads;
     sizes = replaced_lengths journal i payload same ∙ hold.spell.sizes;
     items = hold.spell.items;
@@ -35,6 +36,7 @@ pub vault_dead : (rules : RuleSet) (h : List Entry) (e : Payloads) (journal vaul
     Hold rules h e journal vault → (IsLive (after rules h) (Vault i) → ⊥) → length payload ≡ length (payload_of vault i) → Hold rules h e journal (replaced vault i payload)
 vault_dead rules h e journal vault i payload hold dead same = record {
   spell = record {
+    entries = hold.spell.entries;
     heads = hold.spell.heads;
     sizes = hold.spell.sizes;
     items = replaced_heads (λ (l : List ℕ). l) vault i payload ∙ (hold.spell.items ∙ ap (item_heads (after rules h).items) (sym seals));

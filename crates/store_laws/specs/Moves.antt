@@ -2,7 +2,7 @@
 use Rattle.std.specs.Prelude.{◌≡◌, ◌⊎◌, ℕ, true, List, [], ◌∷◌, ◌++◌, Some, None, length, map, slice_get, drop}
 use Rattle.delf_disk.specs.Areas.{Areas}
 use Rattle.gate_log.specs.Records.{Record, payload_of}
-use Rattle.entry_codec.specs.EntryHead.{entry_head}
+use Rattle.entry_codec.specs.EntryHead.{entry_head, IsEntry}
 use Rattle.delf_model.specs.declared.entry.Entry.{Entry}
 use Rattle.delf_model.specs.declared.entry.What.{What}
 use Rattle.delf_model.specs.declared.entry.What.TheVariants.{Put}
@@ -16,6 +16,7 @@ use Rattle.store_laws.specs.Stores.{digest, payload_in, length_in, head_in, logg
 
 -- the journal record of an entry that was given these bytes, over the records that stand there
 pub record IsEntryRecord (s : State) (vault : List Record) (entry : Entry) (given : List ℕ) (r : Record) : Type 0 where
+  pub entry_spelled : IsEntry entry
   pub head : r.head ≡ entry_head entry
   pub size : length r.payload ≡ record_size s entry.what
   pub brought : brings entry.what ≡ true → r.payload ≡ given

@@ -3,7 +3,7 @@ use Rattle.std.specs.Prelude.{◌≡◌, ℕ, ◌+◌, ◌-◌, ◌≤◌, true,
 use Rattle.delf_disk.specs.Areas.{Areas}
 use Rattle.gate_log.specs.Records.{Record, payload_of}
 use Rattle.sha2.specs.Sha256.{sha256}
-use Rattle.entry_codec.specs.EntryHead.{entry_head}
+use Rattle.entry_codec.specs.EntryHead.{entry_head, AreEntries}
 use Rattle.entry_codec.specs.ItemHead.{item_head}
 use Rattle.delf_model.specs.declared.entry.Entry.{Entry}
 use Rattle.delf_model.specs.RuleSet.{RuleSet}
@@ -58,8 +58,9 @@ item_heads items seals = []
 abbrev pub logged_size : Logged → ℕ
 logged_size logged = size_of logged.item
 
--- records that spell a history and its items: heads and sizes
+-- records that spell a history, whose entries have a spelling, and its items: heads and sizes
 pub record Spell (rules : RuleSet) (history : List Entry) (journal vault : List Record) : Type 0 where
+  pub entries : AreEntries history
   pub heads : map head_in journal ≡ map entry_head history
   pub sizes : map length_in journal ≡ record_sizes (start rules) history
   pub items : map head_in vault ≡ item_heads (after rules history).items (seals_of vault)

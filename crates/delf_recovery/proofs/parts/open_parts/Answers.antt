@@ -36,13 +36,13 @@ returns-in-Err-read_areas-clause-told g c = λ plain it at place.
     told_place c.args.rules (g.D.Disk.seen c.args.disk.now) c.in-Err-read_areas.fault it at (returns-in-Err-read_areas-clause-bad g c plain) place
 
 pub returns-in-Err-read_areas-clause-never : goal.returns-in-Err-read_areas-clause-never
-returns-in-Err-read_areas-clause-never g c = λ plain h e all but.
+returns-in-Err-read_areas-clause-never g c = λ plain h e but.
     let one = stays_plain c.sync.ensures.kind plain in
-    c.in-Err-read_areas.ensures.never one h e all
+    c.in-Err-read_areas.ensures.never one h e
     (there c.args.rules c.fold-fold.result.rules h h e (g.D.Disk.seen c.args.disk.now) (g.D.Disk.seen c.sync.new.self) (sym c.fold-fold.ensures.rules) refl (sym (c.sync.ensures.seen plain)) but)
 
 pub returns-in-Err-read_areas-clause-crash : goal.returns-in-Err-read_areas-clause-crash
-returns-in-Err-read_areas-clause-crash g c = λ plain h e all but.
+returns-in-Err-read_areas-clause-crash g c = λ plain h e but.
     let one = stays_plain c.sync.ensures.kind plain in
     let before = leaves_kept
     (leaves_started c.args.disk.now (λ (x : Areas). g.D.Disk.may_leave c.args.disk.now x ⊎ StandBut c.args.rules h e x) (λ x left. g.met.D.Disk.only_now c.args.disk.now x plain left) (λ x image. inl image))
@@ -52,7 +52,7 @@ returns-in-Err-read_areas-clause-crash g c = λ plain h e all but.
     (λ x stood. inr stood))
 
 pub returns-in-Err-mend-clause-crash : goal.returns-in-Err-mend-clause-crash
-returns-in-Err-mend-clause-crash g c = λ plain h e all but.
+returns-in-Err-mend-clause-crash g c = λ plain h e but.
     let one = stays_plain c.sync.ensures.kind plain in
     let two = stays_plain c.read_areas.ensures.kind one in
     let f = c.read_areas.new.fold in
@@ -60,7 +60,7 @@ returns-in-Err-mend-clause-crash g c = λ plain h e all but.
     let rules = c.in-Ok-read_areas.ensures.rules ∙ c.fold-fold.ensures.rules in
     let found = c.in-Ok-read_areas.ensures.found one in
     let but_now = there c.args.rules f.rules h h e (g.D.Disk.seen c.args.disk.now) seen (sym rules) refl (sym (c.sync.ensures.seen plain)) but in
-    let same = one_history f.rules h f.history e found.payloads seen all found.entries but_now found.stand in
+    let same = one_history f.rules h f.history e found.payloads seen but_now found.stand in
     let first = c.read_areas.ensures.crash one f.rules f.history e (there f.rules f.rules h f.history e seen seen refl same refl but_now) in
     let second = c.mend.ensures.crash two e (first.now (g.D.Disk.seen c.read_areas.new.disk) (g.met.D.Disk.reads_as_image c.read_areas.new.disk two)) in
     let before = leaves_kept
@@ -69,7 +69,7 @@ returns-in-Err-mend-clause-crash g c = λ plain h e all but.
     leaves_joined before (leaves_widened (leaves_joined first second) (λ x stood. inr (there f.rules c.args.rules f.history h e x x rules (sym same) refl stood)))
 
 pub returns-clause-crash : goal.returns-clause-crash
-returns-clause-crash g c = λ plain h e all but.
+returns-clause-crash g c = λ plain h e but.
     let one = stays_plain c.sync.ensures.kind plain in
     let two = stays_plain c.read_areas.ensures.kind one in
     let f = c.read_areas.new.fold in
@@ -77,7 +77,7 @@ returns-clause-crash g c = λ plain h e all but.
     let rules = c.in-Ok-read_areas.ensures.rules ∙ c.fold-fold.ensures.rules in
     let found = c.in-Ok-read_areas.ensures.found one in
     let but_now = there c.args.rules f.rules h h e (g.D.Disk.seen c.args.disk.now) seen (sym rules) refl (sym (c.sync.ensures.seen plain)) but in
-    let same = one_history f.rules h f.history e found.payloads seen all found.entries but_now found.stand in
+    let same = one_history f.rules h f.history e found.payloads seen but_now found.stand in
     let first = c.read_areas.ensures.crash one f.rules f.history e (there f.rules f.rules h f.history e seen seen refl same refl but_now) in
     let second = c.mend.ensures.crash two e (first.now (g.D.Disk.seen c.read_areas.new.disk) (g.met.D.Disk.reads_as_image c.read_areas.new.disk two)) in
     let before = leaves_kept
@@ -86,7 +86,7 @@ returns-clause-crash g c = λ plain h e all but.
     leaves_joined before (leaves_widened (leaves_joined first second) (λ x stood. inr (there f.rules c.args.rules f.history h e x x rules (sym same) refl stood)))
 
 pub returns-clause-opened : goal.returns-clause-opened
-returns-clause-opened g c = λ plain h e all but.
+returns-clause-opened g c = λ plain h e but.
     let one = stays_plain c.sync.ensures.kind plain in
     let two = stays_plain c.read_areas.ensures.kind one in
     let f = c.read_areas.new.fold in
@@ -94,7 +94,7 @@ returns-clause-opened g c = λ plain h e all but.
     let rules = c.in-Ok-read_areas.ensures.rules ∙ c.fold-fold.ensures.rules in
     let found = c.in-Ok-read_areas.ensures.found one in
     let but_now = there c.args.rules f.rules h h e (g.D.Disk.seen c.args.disk.now) seen (sym rules) refl (sym (c.sync.ensures.seen plain)) but in
-    let same = one_history f.rules h f.history e found.payloads seen all found.entries but_now found.stand in
+    let same = one_history f.rules h f.history e found.payloads seen but_now found.stand in
     let first = c.read_areas.ensures.crash one f.rules f.history e (there f.rules f.rules h f.history e seen seen refl same refl but_now) in
     let rests = c.in-Ok-mend.ensures.rests two e (first.now (g.D.Disk.seen c.read_areas.new.disk) (g.met.D.Disk.reads_as_image c.read_areas.new.disk two)) in
     (sym same, rest_there f.rules c.args.rules f.history h e (g.D.Disk.may_leave c.mend.new.disk) rules (sym same) rests)

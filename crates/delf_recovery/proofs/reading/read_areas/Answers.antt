@@ -16,8 +16,8 @@ use Rattle.delf_recovery.proofs.Faults.{journal_never, vault_bad, vault_never}
 use Rattle.delf_recovery.proofs.reading.read_areas.Goals as goal
 
 pub returns-in-Err-clause-never : goal.returns-in-Err-clause-never
-returns-in-Err-clause-never g c = λ plain h e all but.
-    journal_never c.args.fold.now.rules h e (g.D.Disk.seen c.args.disk.now) c.in-Err.fault all but (c.in-Err.ensures.bad plain)
+returns-in-Err-clause-never g c = λ plain h e but.
+    journal_never c.args.fold.now.rules h e (g.D.Disk.seen c.args.disk.now) c.in-Err.fault but (c.in-Err.ensures.bad plain)
 
 pub returns-in-Err-read_vault-clause-bad : goal.returns-in-Err-read_vault-clause-bad
 returns-in-Err-read_vault-clause-bad g c = λ plain.
@@ -30,13 +30,13 @@ returns-in-Err-read_vault-clause-bad g c = λ plain.
     (subst (λ (v : List ℕ). ShowsFaulty (state_of c.read_journal.new.fold).items v c.in-Err-read_vault.fault) same (c.in-Err-read_vault.ensures.bad (stays_plain c.read_journal.ensures.kind plain))))
 
 pub returns-in-Err-read_vault-clause-never : goal.returns-in-Err-read_vault-clause-never
-returns-in-Err-read_vault-clause-never g c = λ plain h e all but.
+returns-in-Err-read_vault-clause-never g c = λ plain h e but.
     let f = c.read_journal.new.fold in
     let fault = c.in-Err-read_vault.fault in
     let old = g.D.Disk.seen c.args.disk.now in
     let same = (c.in-Ok.ensures.starts plain).other in
     let but_now = subst (λ (r : RuleSet). StandBut r h e (g.D.Disk.seen c.args.disk.now)) (sym c.in-Ok.ensures.rules) but in
-    vault_never f.rules f.history h e old fault (c.in-Ok.ensures.reads plain) all but_now
+    vault_never f.rules f.history h e old fault (c.in-Ok.ensures.reads plain) but_now
     (subst (λ (v : List ℕ). ShowsFaulty (state_of c.read_journal.new.fold).items v c.in-Err-read_vault.fault) same (c.in-Err-read_vault.ensures.bad (stays_plain c.read_journal.ensures.kind plain)))
 
 pub returns-in-Err-read_vault-clause-crash : goal.returns-in-Err-read_vault-clause-crash
@@ -59,7 +59,7 @@ returns-in-Ok-read_vault-clause-vault_reads g c = λ plain.
 pub returns-in-Ok-read_vault-clause-found : goal.returns-in-Ok-read_vault-clause-found
 returns-in-Ok-read_vault-clause-found g c = λ plain.
     let f = c.read_journal.new.fold in
-    let stood = reads_stand f.rules f.history (g.D.Disk.seen c.args.disk.now) c.in-Ok.ensures.legal (c.in-Ok.ensures.reads plain) (returns-in-Ok-read_vault-clause-vault_reads g c plain) in
+    let stood = reads_stand f.rules f.history (g.D.Disk.seen c.args.disk.now) c.in-Ok.ensures.legal c.in-Ok.ensures.entries (c.in-Ok.ensures.reads plain) (returns-in-Ok-read_vault-clause-vault_reads g c plain) in
     record { entries = c.in-Ok.ensures.entries; payloads = stood.0; stand = stood.1 }
 
 pub returns-in-Ok-read_vault-clause-sized : goal.returns-in-Ok-read_vault-clause-sized

@@ -7,7 +7,7 @@ use Rattle.store_laws.proofs.examples.empty_history.Goals as goal
 
 empty_held : (rules : RuleSet) → Hold rules [] no_payloads [] []
 empty_held rules = record {
-  spell = record { heads = refl; sizes = refl; items = refl; item_sizes = refl };
+  spell = record { entries = tt; heads = refl; sizes = refl; items = refl; item_sizes = refl };
   reads = λ p needed. absurd (false≢true needed);
   seals = refl;
   alone = λ p unneeded. refl;

@@ -5,4 +5,4 @@ pub open_book-requires-clause-counts : goal.open_book-requires-clause-counts
 open_book-requires-clause-counts g c = λ edge. ap (λ (f : ℕ → Bool). f edge) c.in-Ok.ensures.counts
 
 pub returns-in-Err-open_book-clause-held : goal.returns-in-Err-open_book-clause-held
-returns-in-Err-open_book-clause-held g c = λ plain history e entries stands at image. (c.in-Err-open_book.ensures.crash plain history e entries stands).now at image
+returns-in-Err-open_book-clause-held g c = λ plain history e stands at image. (c.in-Err-open_book.ensures.crash plain history e stands).now at image
