@@ -1,0 +1,73 @@
+//! The edges of one end, in the order in which that end's edges are asked for.
+ghost use Rattle.std.specs.Prelude.{◌≡◌, Bool, slice_get};
+ghost use Rattle.edge_index.specs.Ends.{at_source, at_target, has_near, rows_near};
+
+use crate::links::{Links, row_at};
+use delf_model::{EdgeKey, EdgeRow, ObjectId};
+use std::collections::BTreeMap;
+
+/// Where an edge stands among the edges of one of its ends: by edge type, then by the other end.
+#[derive(Clone, Copy, PartialEq, Eq, PartialOrd, Ord)]
+pub struct EndKey {
+    pub near: u64,
+    pub edge: u8,
+    pub far: u64,
+}
+
+/// The keys for which there is room, by where they stand at one of their ends.
+pub type EndOrder = BTreeMap<EndKey, EdgeKey>;
+
+/// Where the edge with this key stands at its source.
+pub fn source_end(key: &EdgeKey) -> EndKey
+    ensures { result ≡ at_source key.now }
+{
+    EndKey {
+        near: key.from.get(),
+        edge: key.edge.0,
+        far: key.to.get(),
+    }
+}
+
+/// Where the edge with this key stands at its target.
+pub fn target_end(key: &EdgeKey) -> EndKey
+    ensures { result ≡ at_target key.now }
+{
+    EndKey {
+        near: key.to.get(),
+        edge: key.edge.0,
+        far: key.from.get(),
+    }
+}
+
+// What stands before all edges of the end with this number.
+fn start_of(near: u64) -> EndKey
+    ensures { result ≡ record { near = near; edge = 0; far = 0 } }
+{
+    EndKey {
+        near,
+        edge: 0,
+        far: 0,
+    }
+}
+
+/// The row at this place, from 0, among those that stand at this end.
+pub fn row_near(links: &Links, order: &EndOrder, id: ObjectId, i: u32) -> Option<EdgeRow>
+    ensures { result ≡ slice_get (rows_near links.now.entries order.now.entries id) i }
+{
+    let near = id.get();
+    order
+        .range(start_of(near)..start_of(near + 1))
+        .filter_map(|(_, key)| row_at(links, key))
+        .nth(i as usize)
+}
+
+/// Whether there is room for any edge at this end.
+pub fn has_end(order: &EndOrder, id: ObjectId) -> bool
+    ensures { result ≡ has_near order.now.entries id }
+{
+    let near = id.get();
+    order
+        .range(start_of(near)..start_of(near + 1))
+        .next()
+        .is_some()
+}
