@@ -24,6 +24,10 @@ at_target key = record { near = key.to; edge = key.edge; far = key.from }
 abbrev pub is_near : ℕ → EndKey × EdgeKey → Bool
 is_near id place = nat_eq place.0.near id
 
+-- the key at a place
+abbrev pub place_of : List (EndKey × EdgeKey) → EndKey → Option EdgeKey
+place_of order place = lookup (is_at (end_cmp place)) order
+
 -- whether any key stands at this end
 abbrev pub has_near : List (EndKey × EdgeKey) → ℕ → Bool
 has_near order id = list_any (is_near id) order
@@ -39,4 +43,4 @@ stands_at end place = place.0 ≡ end place.1
 pub record IsOrderOf (end : EdgeKey → EndKey) (links : List Entry) (order : List (EndKey × EdgeKey)) : Type 0 where
   pub rise : IsStrictlySortedBy end_cmp (keys_of order)
   pub places : AllByRecursion (stands_at end) order
-  pub whole : (key : EdgeKey) → has_room links key ≡ true → lookup (is_at (end_cmp (end key))) order ≡ Some key
+  pub whole : (key : EdgeKey) → has_room links key ≡ true → place_of order (end key) ≡ Some key

@@ -4,3 +4,4 @@ pub mod Ends
 pub mod Refs
 pub mod IndexedEdges
 pub mod Tables
+pub mod Inside

@@ -14,7 +14,7 @@ refs_at refs id = lookup (is_at (nat_cmp id)) refs
 abbrev pub refs_of : List (ℕ × ℕ) → ℕ → ℕ
 refs_of refs id = unwrap_or (refs_at refs id) 0
 
--- each target has its count, and a place for it where there is room for an edge that counts
+-- each target has its count, and a place for it where there is room for an edge into it
 pub record AreRefsOf (counts : ℕ → Bool) (links : List Entry) (refs : List (ℕ × ℕ)) : Type 0 where
   pub exact : (id : ℕ) → refs_of refs id ≡ count_by (is_counted counts id) (rows_of links)
-  pub room : (key : EdgeKey) → has_room links key ≡ true → counts key.edge ≡ true → is_some (refs_at refs key.to) ≡ true
+  pub room : (key : EdgeKey) → has_room links key ≡ true → is_some (refs_at refs key.to) ≡ true

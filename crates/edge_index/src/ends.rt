@@ -1,9 +1,13 @@
 //! The edges of one end, in the order in which that end's edges are asked for.
-ghost use Rattle.std.specs.Prelude.{◌≡◌, Bool, slice_get};
-ghost use Rattle.edge_index.specs.Ends.{at_source, at_target, has_near, rows_near};
+ghost use Rattle.std.specs.Prelude.{◌≡◌, Some, List, OnOk, slice_get};
+ghost use Rattle.delf_model.specs.declared.rows.EdgeKey.{EdgeKey};
+ghost use Rattle.edge_index.specs.declared.ends.EndKey.{EndKey};
+ghost use Rattle.edge_index.specs.Links.{Entry};
+ghost use Rattle.edge_index.specs.Ends.{at_source, at_target, place_of, has_near, rows_near, IsOrderOf};
 
 use crate::links::{Links, row_at};
 use delf_model::{EdgeKey, EdgeRow, ObjectId};
+use std::alloc::AllocError;
 use std::collections::BTreeMap;
 
 /// Where an edge stands among the edges of one of its ends: by edge type, then by the other end.
@@ -70,4 +74,13 @@ pub fn has_end(order: &EndOrder, id: ObjectId) -> bool
         .range(start_of(near)..start_of(near + 1))
         .next()
         .is_some()
+}
+
+/// Puts a key at its place in an order. The only error is want of memory.
+pub fn add_place(order: &mut EndOrder, place: EndKey, key: EdgeKey) -> Result<(), AllocError>
+    ensures there { OnOk result (place_of order.new.entries place ≡ Some key) }
+    ensures keeps { (end : EdgeKey → EndKey) → (links : List Entry) → end key ≡ place → IsOrderOf end links order.old.entries → IsOrderOf end links order.new.entries }
+{
+    order.insert(place, key)?;
+    Ok(())
 }

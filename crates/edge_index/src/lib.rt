@@ -5,6 +5,8 @@ mod edge_index;
 mod ends;
 mod links;
 mod refs;
+mod shapes;
+mod tables;
 #[cfg(test)]
 mod tests;
 
