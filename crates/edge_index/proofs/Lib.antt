@@ -1,0 +1,4 @@
+pub mod Keys
+pub mod Rises
+pub mod Rows
+pub mod Near
