@@ -1,14 +1,16 @@
 //! The edges of one end, in the order in which that end's edges are asked for.
-ghost use Rattle.std.specs.Prelude.{◌≡◌, Some, List, OnOk, slice_get};
+ghost use Rattle.std.specs.Prelude.{◌≡◌, Some, List, OnOk, filter, slice_get};
+ghost use Rattle.std.specs.Map.Iter.{ShowsInOrder, deref_pair};
 ghost use Rattle.delf_model.specs.declared.rows.EdgeKey.{EdgeKey};
 ghost use Rattle.edge_index.specs.declared.ends.EndKey.{EndKey};
 ghost use Rattle.edge_index.specs.Links.{Entry};
-ghost use Rattle.edge_index.specs.Ends.{at_source, at_target, place_of, has_near, rows_near, IsOrderOf};
+ghost use Rattle.edge_index.specs.Ends.{at_source, at_target, place_of, is_near, has_near, rows_near, IsOrderOf};
 
 use crate::links::{Links, row_at};
 use delf_model::{EdgeKey, EdgeRow, ObjectId};
 use std::alloc::AllocError;
 use std::collections::BTreeMap;
+use std::collections::btree_map::Range;
 
 /// Where an edge stands among the edges of one of its ends: by edge type, then by the other end.
 #[derive(Clone, Copy, PartialEq, Eq, PartialOrd, Ord)]
@@ -54,13 +56,20 @@ fn start_of(near: u64) -> EndKey
     }
 }
 
+// The keys that stand at this end.
+fn places_near(order: &EndOrder, id: ObjectId) -> Range<'_, EndKey, EdgeKey>
+    ensures rest { result ≡ filter (is_near id) order.now.entries }
+    ensures runs { ShowsInOrder (deref_pair {K = EndKey} {X = EdgeKey}) }
+{
+    let near = id.get();
+    order.range(start_of(near)..start_of(near + 1))
+}
+
 /// The row at this place, from 0, among those that stand at this end.
 pub fn row_near(links: &Links, order: &EndOrder, id: ObjectId, i: u32) -> Option<EdgeRow>
     ensures { result ≡ slice_get (rows_near links.now.entries order.now.entries id) i }
 {
-    let near = id.get();
-    order
-        .range(start_of(near)..start_of(near + 1))
+    places_near(order, id)
         .filter_map(|(_, key)| row_at(links, key))
         .nth(i as usize)
 }
@@ -69,11 +78,7 @@ pub fn row_near(links: &Links, order: &EndOrder, id: ObjectId, i: u32) -> Option
 pub fn has_end(order: &EndOrder, id: ObjectId) -> bool
     ensures { result ≡ has_near order.now.entries id }
 {
-    let near = id.get();
-    order
-        .range(start_of(near)..start_of(near + 1))
-        .next()
-        .is_some()
+    places_near(order, id).next().is_some()
 }
 
 /// Puts a key at its place in an order. The only error is want of memory.
