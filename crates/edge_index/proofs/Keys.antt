@@ -8,7 +8,8 @@ use Rattle.delf_model.specs.declared.rows.EdgeKey.{EdgeKey}
 use Rattle.delf_model.specs.Graph.{same_key, key_before}
 use Rattle.edge_index.specs.declared.ends.EndKey.{EndKey}
 use Rattle.edge_index.specs.Keys.{edge_cmp}
-use Rattle.edge_index.specs.Ends.{end_cmp, at_source, at_target}
+use Rattle.delf_model.proofs.Graphs.{same_key_is}
+use Rattle.edge_index.specs.Ends.{end_cmp, at_source, at_target, TellsApart}
 
 pub edge_equal : (a b : EdgeKey) → is_eq (edge_cmp a b) ≡ same_key a b
 edge_equal a b = grind (arith, nat_tests, common_steps)
@@ -68,3 +69,9 @@ one_place p q h =
 
 pub place_self : (p : EndKey) → is_eq (end_cmp p p) ≡ true
 place_self p = grind (arith, nat_tests, common_steps)
+
+pub source_apart : TellsApart at_source
+source_apart a b same = same_key_is a b (sym (source_one a b) ∙ (ap (λ (q : EndKey). is_eq (end_cmp (at_source a) q)) (sym same) ∙ place_self (at_source a)))
+
+pub target_apart : TellsApart at_target
+target_apart a b same = same_key_is a b (sym (target_one a b) ∙ (ap (λ (q : EndKey). is_eq (end_cmp (at_target a) q)) (sym same) ∙ place_self (at_target a)))

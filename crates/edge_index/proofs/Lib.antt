@@ -4,3 +4,6 @@ pub mod Rows
 pub mod Near
 pub mod Ranges
 pub mod Copies
+pub mod Counts
+pub mod Orders
+pub mod Changes

@@ -172,3 +172,7 @@ room_is_ready key (e ∷ es) = go (same_key key e.0) (is_eq (edge_cmp key e.0)) 
     go false false same rest = rest
     go true false same rest = absurd (cc)
     go false true same rest = absurd (cc)
+
+pub room_same : (before after : List Entry) → keys_of after ≡ keys_of before → (key : EdgeKey) → has_room after key ≡ true → has_room before key ≡ true
+room_same before after keys key room =
+    sym (room_is_ready key before) ∙ (ap (list_any (same_key key)) (sym keys) ∙ (room_is_ready key after ∙ room))

@@ -39,6 +39,10 @@ rows_near links order id = filter_map (λ place. row_in links place.1) (filter (
 abbrev pub stands_at : (EdgeKey → EndKey) → EndKey × EdgeKey → Type 0
 stands_at end place = place.0 ≡ end place.1
 
+-- no two keys stand at one place
+abbrev pub TellsApart : (EdgeKey → EndKey) → Type 0
+TellsApart end = (a b : EdgeKey) → end a ≡ end b → a ≡ b
+
 -- an order has each key for which there is room, at its place
 pub record IsOrderOf (end : EdgeKey → EndKey) (links : List Entry) (order : List (EndKey × EdgeKey)) : Type 0 where
   pub rise : IsStrictlySortedBy end_cmp (keys_of order)

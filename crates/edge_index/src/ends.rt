@@ -4,7 +4,7 @@ ghost use Rattle.std.specs.Map.Iter.{ShowsInOrder, deref_pair};
 ghost use Rattle.delf_model.specs.declared.rows.EdgeKey.{EdgeKey};
 ghost use Rattle.edge_index.specs.declared.ends.EndKey.{EndKey};
 ghost use Rattle.edge_index.specs.Links.{Entry};
-ghost use Rattle.edge_index.specs.Ends.{at_source, at_target, place_of, is_near, has_near, rows_near, IsOrderOf};
+ghost use Rattle.edge_index.specs.Ends.{at_source, at_target, place_of, is_near, has_near, rows_near, TellsApart, IsOrderOf};
 
 use crate::links::{Links, row_at};
 use delf_model::{EdgeKey, EdgeRow, ObjectId};
@@ -84,7 +84,7 @@ pub fn has_end(order: &EndOrder, id: ObjectId) -> bool
 /// Puts a key at its place in an order. The only error is want of memory.
 pub fn add_place(order: &mut EndOrder, place: EndKey, key: EdgeKey) -> Result<(), AllocError>
     ensures there { OnOk result (place_of order.new.entries place ≡ Some key) }
-    ensures keeps { (end : EdgeKey → EndKey) → (links : List Entry) → end key ≡ place → IsOrderOf end links order.old.entries → IsOrderOf end links order.new.entries }
+    ensures keeps { (end : EdgeKey → EndKey) → (links : List Entry) → TellsApart end → end key ≡ place → IsOrderOf end links order.old.entries → IsOrderOf end links order.new.entries }
 {
     order.insert(place, key)?;
     Ok(())

@@ -1,8 +1,9 @@
 //! The edge types by number.
 ghost use Rattle.std.specs.Prelude.{◌≡◌, IfOk, slice_get};
 ghost use Rattle.delf_model.specs.RuleSet.{is_refcount_shape};
+ghost use Rattle.edge_index.specs.Refs.{row_counts};
 
-use delf_model::{EdgeNo, EdgeRule, EdgeShape, Rules};
+use delf_model::{EdgeNo, EdgeRow, EdgeRule, EdgeShape, Rules};
 use std::alloc::{AllocError, Global};
 
 /// Whether the edge type with this number is refcount.
@@ -11,6 +12,16 @@ pub fn is_counting(shapes: &[EdgeShape], edge: EdgeNo) -> bool
 {
     match shapes.get(edge.0 as usize) {
         Some(shape) => matches!(shape.rule, EdgeRule::Refcount),
+        None => false,
+    }
+}
+
+/// Whether a row, if there is one, is of a refcount type.
+pub fn is_row_counting(shapes: &[EdgeShape], row: &Option<EdgeRow>) -> bool
+    ensures { result ≡ row_counts (λ edge. is_refcount_shape (slice_get shapes.now edge)) row.now }
+{
+    match row {
+        Some(row) => is_counting(shapes, row.key.edge),
         None => false,
     }
 }

@@ -7,7 +7,7 @@ ghost use Rattle.edge_index.specs.Links.{has_room};
 use crate::ends::{EndOrder, add_place, source_end, target_end};
 use crate::links::{Links, put_link, row_at};
 use crate::refs::{Refs, count_down, count_up, forget, ready_ref};
-use crate::shapes::{is_counting, shapes_of};
+use crate::shapes::{is_counting, is_row_counting, shapes_of};
 use delf_model::{EdgeKey, EdgeRow, EdgeShape, Rules};
 use std::alloc::{AllocError, Global};
 use std::collections::BTreeMap;
@@ -87,12 +87,12 @@ impl Tables {
         ensures rows { rows self.new ≡ filter (is_other_edge key.now) (rows self.old) }
         ensures shapes { self.new.shapes.items ≡ self.old.shapes.items }
     {
-        let counts = is_counting(&self.shapes, key.edge);
         let row = row_at(&self.links, key);
+        let counts = is_row_counting(&self.shapes, &row);
         self.links.remove(key);
         self.outward.remove(&source_end(key));
         self.inward.remove(&target_end(key));
-        count_down(&mut self.refs, key.to, counts && row.is_some());
+        count_down(&mut self.refs, key.to, counts);
         forget(&mut self.refs, &self.inward, key.to);
         row
     }
