@@ -119,7 +119,7 @@ pub room_taken : (old new : List Entry) (key : EdgeKey) → Linked old new key N
 room_taken old new key linked q room = (taken_room old new key linked q room).1
 
 -- a key taken out of the table and of its order
-pub order_taken : (end : EdgeKey → EndKey) (near : EdgeKey → ℕ) → IsEnd end near → (old new : List Entry) (order after : List Place) (key : EdgeKey) → Linked old new key None →
+order_taken : (end : EdgeKey → EndKey) (near : EdgeKey → ℕ) → IsEnd end near → (old new : List Entry) (order after : List Place) (key : EdgeKey) → Linked old new key None →
     after ≡ remove_entry (is_at (end_cmp (end key))) order → IsStrictlySortedBy end_cmp (keys_of after) → Placed order after (end key) None →
     IsOrderOf end old order → IsOrderOf end new after
 order_taken end near is old new order after key linked made rise placed o = record {
@@ -132,6 +132,14 @@ order_taken end near is old new order after key linked made rise placed o = reco
 or_right : (a b : Bool) → b ≡ true → (a || b) ≡ true
 or_right true b is = refl
 or_right false b is = is
+
+-- the same, where the place comes by another name
+pub end_taken : (end : EdgeKey → EndKey) (near : EdgeKey → ℕ) → IsEnd end near → (old new : List Entry) (order after : List Place) (key : EdgeKey) (place : EndKey) → place ≡ end key →
+    Linked old new key None → after ≡ remove_entry (is_at (end_cmp place)) order → IsStrictlySortedBy end_cmp (keys_of after) → Placed order after place None →
+    IsOrderOf end old order → IsOrderOf end new after
+end_taken end near is old new order after key place at linked made rise placed o =
+    order_taken end near is old new order after key linked (subst (λ (q : EndKey). after ≡ remove_entry (is_at (end_cmp q)) order) at made) rise
+    (subst (λ (q : EndKey). Placed order after q None) at placed) o
 
 -- a key that has its place stands at that end
 pub near_from_place : (order : List Place) (place : EndKey) (key : EdgeKey) → place_of order place ≡ Some key → has_near order place.near ≡ true
