@@ -1,0 +1,9 @@
+pub mod Keys
+pub mod Rises
+pub mod Rows
+pub mod Near
+pub mod Ranges
+pub mod Copies
+pub mod Counts
+pub mod Orders
+pub mod Changes

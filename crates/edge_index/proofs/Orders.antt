@@ -1,0 +1,154 @@
+-- An order by one end, as a key comes or goes.
+use Rattle.std.proofs.Common.{Less, Equal, Greater, ◌≡◌, ℕ, Bool, true, false, cond, ◌||◌, Option, Some, None, List, [], ◌∷◌, refl, sym, ap, subst, ◌∙◌}
+use Rattle.std.proofs.lemmas.Bool.{eq-eqb}
+use Rattle.std.specs.Prelude.{is_some}
+use Rattle.std.specs.List.{AllByRecursion}
+use Rattle.std.specs.List.Sorted.{IsStrictlySortedBy}
+use Rattle.std.specs.Map.{keys_of, remove_entry}
+use Rattle.std.specs.BTreeMap.{is_at, insert_entry}
+use Rattle.std.specs.declared.cmp.Ordering.{Ordering}
+use Rattle.std.specs.Ordering.{is_eq, match_ordering}
+use Rattle.delf_model.specs.declared.rows.EdgeKey.{EdgeKey}
+use Rattle.delf_model.specs.Graph.{same_key}
+use Rattle.delf_model.proofs.Graphs.{same_key_is, same_key_refl}
+use Rattle.edge_index.specs.declared.ends.EndKey.{EndKey}
+use Rattle.edge_index.specs.declared.links.Link.{Link}
+use Rattle.edge_index.specs.Keys.{edge_cmp}
+use Rattle.edge_index.specs.Links.{Entry, link_at, has_room}
+use Rattle.edge_index.specs.Ends.{end_cmp, place_of, stands_at, is_near, has_near, TellsApart, IsOrderOf}
+use Rattle.edge_index.proofs.Keys.{IsEnd, one_place, place_self, edge_equal}
+use Rattle.edge_index.proofs.Near.{Place}
+
+all_inserted : (end : EdgeKey → EndKey) (place : EndKey) (key : EdgeKey) → place ≡ end key → (order : List Place) → AllByRecursion (stands_at end) order →
+    AllByRecursion (stands_at end) (insert_entry end_cmp order place key)
+all_inserted end place key at [] all = (at, tt)
+all_inserted end place key at (p ∷ ps) all = go (end_cmp place p.0) refl (all_inserted end place key at ps all.1)
+  where
+    go : (o : Ordering) → end_cmp place p.0 ≡ o → AllByRecursion (stands_at end) (insert_entry end_cmp ps place key) →
+        AllByRecursion (stands_at end) (match_ordering o ((place, key) ∷ p ∷ ps) ((p.0, key) ∷ ps) (p ∷ insert_entry end_cmp ps place key))
+    go Less is more = (at, (all.0, all.1))
+    go Equal is more = (sym (one_place place p.0 (ap is_eq is)) ∙ at, all.1)
+    go Greater is more = (all.0, more)
+
+all_removed : (end : EdgeKey → EndKey) (test : EndKey → Bool) (order : List Place) → AllByRecursion (stands_at end) order → AllByRecursion (stands_at end) (remove_entry test order)
+all_removed end test [] all = tt
+all_removed end test (p ∷ ps) all = go (test p.0) (all_removed end test ps all.1)
+  where
+    go : (b : Bool) → AllByRecursion (stands_at end) (remove_entry test ps) → AllByRecursion (stands_at end) (cond b ps (p ∷ remove_entry test ps))
+    go true more = all.1
+    go false more = (all.0, more)
+
+-- what an order has after one place is written or taken out
+abbrev pub Placed : List Place → List Place → EndKey → Option EdgeKey → Type 0
+Placed old new place found = (q : EndKey) → place_of new q ≡ cond (is_eq (end_cmp place q)) found (place_of old q)
+
+pub order_inserted : (end : EdgeKey → EndKey) (links : List Entry) (old new : List Place) (place : EndKey) (key : EdgeKey) → TellsApart end → end key ≡ place →
+    new ≡ insert_entry end_cmp old place key → IsStrictlySortedBy end_cmp (keys_of new) → Placed old new place (Some key) → IsOrderOf end links old → IsOrderOf end links new
+order_inserted end links old new place key apart at made rise placed o = record {
+  rise = rise;
+  places = subst (λ (order : List Place). AllByRecursion (stands_at end) order) (sym made) (all_inserted end place key (sym at) old o.places);
+  whole = λ other room. placed (end other) ∙ go other (o.whole other room) (is_eq (end_cmp place (end other))) refl;
+}
+  where
+    go : (other : EdgeKey) → place_of old (end other) ≡ Some other → (b : Bool) → is_eq (end_cmp place (end other)) ≡ b → cond b (Some key) (place_of old (end other)) ≡ Some other
+    go other was true is = ap (λ (k : EdgeKey). Some k) (apart key other (at ∙ one_place place (end other) is))
+    go other was false is = was
+
+-- the same, as a table of links has more or fewer keys
+pub order_kept : (end : EdgeKey → EndKey) (before after : List Entry) (order : List Place) → ((key : EdgeKey) → has_room after key ≡ true → has_room before key ≡ true) →
+    IsOrderOf end before order → IsOrderOf end after order
+order_kept end before after order less o = record {
+  rise = o.rise;
+  places = o.places;
+  whole = λ key room. o.whole key (less key room);
+}
+
+-- what a table of links has after one key is written or taken out
+abbrev pub Linked : List Entry → List Entry → EdgeKey → Option (Option Link) → Type 0
+Linked old new key found = (q : EdgeKey) → link_at new q ≡ cond (is_eq (edge_cmp key q)) found (link_at old q)
+
+pub room_grown : (old new : List Entry) (key : EdgeKey) (link : Option Link) → Linked old new key (Some link) → (q : EdgeKey) → has_room old q ≡ true → has_room new q ≡ true
+room_grown old new key link linked q room = ap (λ (found : Option (Option Link)). is_some found) (linked q) ∙ go (is_eq (edge_cmp key q))
+  where
+    go : (b : Bool) → is_some (cond b (Some link) (link_at old q)) ≡ true
+    go true = refl
+    go false = room
+
+pub room_made : (old new : List Entry) (key : EdgeKey) (link : Option Link) → Linked old new key (Some link) → has_room new key ≡ true
+room_made old new key link linked =
+    ap (λ (found : Option (Option Link)). is_some found) (linked key)
+    ∙ ap (λ (b : Bool). is_some (cond b (Some link) (link_at old key))) (edge_equal key key ∙ same_key_refl key)
+
+-- a key that has room now and is not the new one had it
+pub room_other : (old new : List Entry) (key : EdgeKey) (link : Option Link) → Linked old new key (Some link) → (q : EdgeKey) → same_key key q ≡ false →
+    has_room new q ≡ true → has_room old q ≡ true
+room_other old new key link linked q apart room =
+    sym (ap (λ (b : Bool). is_some (cond b (Some link) (link_at old q))) (edge_equal key q ∙ apart))
+    ∙ (sym (ap (λ (found : Option (Option Link)). is_some found) (linked q)) ∙ room)
+
+pub no_link : (links : List Entry) (key : EdgeKey) → has_room links key ≡ false → link_at links key ≡ None
+no_link links key none = go (link_at links key) none
+  where
+    go : (found : Option (Option Link)) → is_some found ≡ false → found ≡ None
+    go None none = refl
+    go (Some link) none = absurd (cc)
+
+-- an order that has a new key already serves the table with it
+pub order_grown : (end : EdgeKey → EndKey) (old new : List Entry) (order : List Place) (key : EdgeKey) (link : Option Link) → Linked old new key (Some link) →
+    place_of order (end key) ≡ Some key → IsOrderOf end old order → IsOrderOf end new order
+order_grown end old new order key link linked there o = record {
+  rise = o.rise;
+  places = o.places;
+  whole = λ q room. go q (is_eq (edge_cmp key q)) (sym (edge_equal key q)) (o.whole q) (sym (ap (λ (found : Option (Option Link)). is_some found) (linked q)) ∙ room);
+}
+  where
+    go : (q : EdgeKey) (b : Bool) → same_key key q ≡ b → (has_room old q ≡ true → place_of order (end q) ≡ Some q) →
+        is_some (cond b (Some link) (link_at old q)) ≡ true → place_of order (end q) ≡ Some q
+    go q true is was room = subst (λ (k : EdgeKey). place_of order (end k) ≡ Some k) (same_key_is key q is) there
+    go q false is was room = was room
+
+taken_room : (old new : List Entry) (key : EdgeKey) → Linked old new key None → (q : EdgeKey) → has_room new q ≡ true → (same_key key q ≡ false) × (has_room old q ≡ true)
+taken_room old new key linked q room =
+    go (is_eq (edge_cmp key q)) (sym (edge_equal key q)) (sym (ap (λ (found : Option (Option Link)). is_some found) (linked q)) ∙ room)
+  where
+    go : (b : Bool) → same_key key q ≡ b → is_some (cond b None (link_at old q)) ≡ true → (same_key key q ≡ false) × (has_room old q ≡ true)
+    go true is room = absurd (cc)
+    go false is room = (is, room)
+
+pub room_taken : (old new : List Entry) (key : EdgeKey) → Linked old new key None → (q : EdgeKey) → has_room new q ≡ true → has_room old q ≡ true
+room_taken old new key linked q room = (taken_room old new key linked q room).1
+
+-- a key taken out of the table and of its order
+order_taken : (end : EdgeKey → EndKey) (near : EdgeKey → ℕ) → IsEnd end near → (old new : List Entry) (order after : List Place) (key : EdgeKey) → Linked old new key None →
+    after ≡ remove_entry (is_at (end_cmp (end key))) order → IsStrictlySortedBy end_cmp (keys_of after) → Placed order after (end key) None →
+    IsOrderOf end old order → IsOrderOf end new after
+order_taken end near is old new order after key linked made rise placed o = record {
+  rise = rise;
+  places = subst (λ (ps : List Place). AllByRecursion (stands_at end) ps) (sym made) (all_removed end (is_at (end_cmp (end key))) order o.places);
+  whole = λ q room. let parts = taken_room old new key linked q room in
+      placed (end q) ∙ (ap (λ (b : Bool). cond b None (place_of order (end q))) (is.one key q ∙ parts.0) ∙ o.whole q parts.1);
+}
+
+or_right : (a b : Bool) → b ≡ true → (a || b) ≡ true
+or_right true b is = refl
+or_right false b is = is
+
+-- the same, where the place comes by another name
+pub end_taken : (end : EdgeKey → EndKey) (near : EdgeKey → ℕ) → IsEnd end near → (old new : List Entry) (order after : List Place) (key : EdgeKey) (place : EndKey) → place ≡ end key →
+    Linked old new key None → after ≡ remove_entry (is_at (end_cmp place)) order → IsStrictlySortedBy end_cmp (keys_of after) → Placed order after place None →
+    IsOrderOf end old order → IsOrderOf end new after
+end_taken end near is old new order after key place at linked made rise placed o =
+    order_taken end near is old new order after key linked (subst (λ (q : EndKey). after ≡ remove_entry (is_at (end_cmp q)) order) at made) rise
+    (subst (λ (q : EndKey). Placed order after q None) at placed) o
+
+-- a key that has its place stands at that end
+pub near_from_place : (order : List Place) (place : EndKey) (key : EdgeKey) → place_of order place ≡ Some key → has_near order place.near ≡ true
+near_from_place [] place key there = absurd (cc)
+near_from_place (p ∷ ps) place key there = go (is_eq (end_cmp place p.0)) refl (near_from_place ps place key) there
+  where
+    go : (b : Bool) → is_eq (end_cmp place p.0) ≡ b → (place_of ps place ≡ Some key → has_near ps place.near ≡ true) → cond b (Some p.1) (place_of ps place) ≡ Some key →
+        (is_near place.near p || has_near ps place.near) ≡ true
+    go true is more there =
+        let at : place ≡ p.0 = one_place place p.0 is in
+        ap (λ (b : Bool). b || has_near ps place.near) (eq-eqb p.0.near place.near (ap (λ (q : EndKey). q.near) (sym at)))
+    go false is more there = or_right (is_near place.near p) (has_near ps place.near) (more there)

@@ -1,0 +1,18 @@
+use Rattle.std.proofs.Common.{◌∙◌, rules, sym, tests}
+use Rattle.std.proofs.lemmas.Iterator.Adapters.{option_map_id}
+use Rattle.std.proofs.lemmas.Iterator.Consumers.{nth_from_yields_List, YieldsList-from_filter_map, YieldsList-from_rest, YieldsList-at}
+use Rattle.std.specs.Map.Iter.{deref_pair}
+use Rattle.std.specs.Prelude.{filter}
+use Rattle.delf_model.specs.declared.rows.EdgeKey.{EdgeKey}
+use Rattle.edge_index.specs.declared.ends.EndKey.{EndKey}
+use Rattle.edge_index.specs.Links.{row_in}
+use Rattle.edge_index.specs.Ends.{is_near}
+use Rattle.edge_index.proofs.ends.row_near.Goals as goal
+
+pub returns : goal.returns
+returns c =
+    sym (option_map_id c.nth.result)
+    ∙ nth_from_yields_List c.nth.result _ c.args.i c.nth.ensures.ran
+    (YieldsList-from_filter_map _ (λ (place : EndKey × EdgeKey). row_in c.args.links.now.entries place.1)
+    (YieldsList-at c.filter_map.ensures.source (YieldsList-from_rest (filter (is_near c.args.id) c.args.order.now.entries) c.places_near.ensures.rest))
+    c.filter_map.ensures.closure (λ x r q k. search (rules, tests)))

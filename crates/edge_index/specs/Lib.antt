@@ -1,0 +1,7 @@
+pub mod Keys
+pub mod Links
+pub mod Ends
+pub mod Refs
+pub mod IndexedEdges
+pub mod Tables
+pub mod Inside

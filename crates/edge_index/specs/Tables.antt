@@ -1,0 +1,26 @@
+-- How the tables of an index of edges agree.
+use Rattle.std.specs.Prelude.{ℕ, Bool, ◌<◌, ◌^◌, List, length, slice_get}
+use Rattle.std.specs.List.Sorted.{IsStrictlySortedBy}
+use Rattle.std.specs.Map.{keys_of}
+use Rattle.delf_model.specs.declared.rows.EdgeRow.{EdgeRow}
+use Rattle.delf_model.specs.RuleSet.{is_refcount_shape}
+use Rattle.edge_index.specs.declared.tables.Tables.{Tables}
+use Rattle.edge_index.specs.Keys.{edge_cmp}
+use Rattle.edge_index.specs.Links.{rows_of}
+use Rattle.edge_index.specs.Ends.{IsOrderOf, at_source, at_target}
+use Rattle.edge_index.specs.Refs.{AreRefsOf}
+
+-- the edges of the tables, by rising key
+abbrev pub rows : Tables → List EdgeRow
+rows tables = rows_of tables.links.entries
+
+-- whether the edge type with this number is refcount
+abbrev pub counts : Tables → ℕ → Bool
+counts tables = λ edge. is_refcount_shape (slice_get tables.shapes.items edge)
+
+pub record Agree (tables : Tables) : Type 0 where
+  pub rise : IsStrictlySortedBy edge_cmp (keys_of tables.links.entries)
+  pub few : length (rows tables) < 2 ^ 32
+  pub out : IsOrderOf at_source tables.links.entries tables.outward.entries
+  pub into : IsOrderOf at_target tables.links.entries tables.inward.entries
+  pub refs : AreRefsOf (counts tables) tables.links.entries tables.refs.entries

@@ -1,0 +1,99 @@
+//! The tables of an index: the links, their orders by source and by target, and the counts by target.
+ghost use Rattle.std.specs.Prelude.{◌≡◌, ◌<◌, true, [], OnOk, IfOk, None, length, find, filter};
+ghost use Rattle.delf_model.specs.declared.rows.EdgeKey.{EdgeKey};
+ghost use Rattle.delf_model.specs.Graph.{has_key, put_edge, is_other_edge};
+ghost use Rattle.edge_index.specs.Links.{has_room};
+
+use crate::ends::{EndOrder, add_place, source_end, target_end};
+use crate::links::{Links, put_link, row_at};
+use crate::refs::{Refs, count_down, count_up, forget, ready_ref};
+use crate::shapes::{is_counting, is_row_counting, shapes_of};
+use delf_model::{EdgeKey, EdgeRow, EdgeShape, Rules};
+use std::alloc::{AllocError, Global};
+use std::collections::BTreeMap;
+
+/// The tables of an index of edges.
+#[derive(Drop)]
+pub struct Tables {
+    /// By edge type.
+    pub shapes: Vec<EdgeShape>,
+    /// What stands at each key for which there is room.
+    pub links: Links,
+    /// The same keys, and maybe more, by source.
+    pub outward: EndOrder,
+    /// The same by target.
+    pub inward: EndOrder,
+    /// By target.
+    pub refs: Refs,
+}
+
+impl Tables {
+    ghost use Rattle.edge_index.specs.Tables.{Agree, rows};
+
+    /// No keys, for the edge types of these rules. The only error is want of memory.
+    pub fn empty(alloc: Global, rules: &Rules) -> Result<Tables, AllocError>
+        ensures agree { IfOk result Agree }
+        ensures rows { IfOk result (λ tables. rows tables ≡ []) }
+        ensures shapes { IfOk result (λ tables. tables.shapes.items ≡ rules.now.edges) }
+    {
+        Ok(Tables {
+            shapes: shapes_of(alloc, rules)?,
+            links: BTreeMap::new(alloc),
+            outward: BTreeMap::new(alloc),
+            inward: BTreeMap::new(alloc),
+            refs: BTreeMap::new(alloc),
+        })
+    }
+
+    /// Makes room for this key in each table. The only error is want of memory.
+    pub fn ready(&mut self, key: EdgeKey) -> Result<(), AllocError>
+        requires { Agree self.old }
+        ensures agree { Agree self.new }
+        ensures rows { rows self.new ≡ rows self.old }
+        ensures shapes { self.new.shapes.items ≡ self.old.shapes.items }
+        ensures ready { OnOk result (has_room self.new.links.entries key ≡ true) }
+        ensures stay { (other : EdgeKey) → has_room self.old.links.entries other ≡ true → has_room self.new.links.entries other ≡ true }
+    {
+        if self.links.contains_key(&key) {
+            return Ok(());
+        }
+        add_place(&mut self.outward, source_end(&key), key)?;
+        add_place(&mut self.inward, target_end(&key), key)?;
+        ready_ref(&mut self.refs, key.to)?;
+        self.links.insert(key, None)?;
+        Ok(())
+    }
+
+    /// Puts a row whose key is free and has room, where there are fewer than 4,294,967,295.
+    pub fn put(&mut self, row: &EdgeRow)
+        requires agree { Agree self.old }
+        requires free { find (has_key row.now.key) (rows self.old) ≡ None }
+        requires ready { has_room self.old.links.entries row.now.key ≡ true }
+        requires room { length (rows self.old) < 4294967295 }
+        ensures agree { Agree self.new }
+        ensures rows { rows self.new ≡ put_edge row.now (rows self.old) }
+        ensures shapes { self.new.shapes.items ≡ self.old.shapes.items }
+    {
+        let counts = is_counting(&self.shapes, row.key.edge);
+        put_link(&mut self.links, row);
+        count_up(&mut self.refs, row.key.to, counts);
+    }
+
+    /// Takes this key out of each table, and answers the row that stood there.
+    pub fn take(&mut self, key: &EdgeKey) -> Option<EdgeRow>
+        requires { Agree self.old }
+        ensures row { result ≡ find (has_key key.now) (rows self.old) }
+        ensures agree { Agree self.new }
+        ensures rows { rows self.new ≡ filter (is_other_edge key.now) (rows self.old) }
+        ensures shapes { self.new.shapes.items ≡ self.old.shapes.items }
+    {
+        let row = row_at(&self.links, key);
+        let counts = is_row_counting(&self.shapes, &row);
+        self.links.remove(key);
+        self.outward.remove(&source_end(key));
+        self.inward.remove(&target_end(key));
+        count_down(&mut self.refs, key.to, counts);
+        forget(&mut self.refs, &self.inward, key.to);
+        row
+    }
+}
