@@ -1,8 +1,9 @@
 //! Rows by rising id: the place of an id, the look-ups, and one row put, changed or taken.
 ghost use Rattle.std.specs.Prelude.{◌≡◌, ◌<◌, ◌≤◌, IsTrue, None, find, filter, map, vec_len, vec_capacity};
+ghost use Rattle.std.specs.List.{insert};
 ghost use Rattle.delf_model.specs.Graph.{objects_rise, has_id, put_object as with_row, rewritten, is_other_object};
 ghost use Rattle.delf_model.specs.Store.{least_due};
-ghost use Rattle.object_shards.specs.Rows.{place_in, least_of};
+ghost use Rattle.object_shards.specs.Rows.{place_in, least_of, lesser_due as least_with};
 
 use delf_model::{Moment, ObjectId, ObjectRow};
 
@@ -56,12 +57,19 @@ pub fn least_due_of(rows: &[ObjectRow]) -> Moment
     ensures { result ≡ least_of rows.now }
 {
     let mut least = Moment::MAX;
-    for row in rows.iter().rev() {
-        if 0 < row.due && row.due < least {
-            least = row.due;
-        }
+    let mut place = rows.len();
+    'rows: while place > 0 {
+        place -= 1;
+        least = lesser_due(rows[place].due, least);
     }
     least
+}
+
+/// The lesser of a due and a least due, where a due of 0 counts for none.
+pub fn lesser_due(due: Moment, least: Moment) -> Moment
+    ensures { result ≡ least_with due least }
+{
+    if 0 < due && due < least { due } else { least }
 }
 
 /// Puts a row whose id is free where a place is free.
@@ -72,7 +80,16 @@ pub fn put_row(rows: &mut Vec<ObjectRow>, row: ObjectRow)
     ensures { rows.new.items ≡ with_row row rows.old.items }
 {
     let place = place_of(rows, row.id);
-    let _ = rows.insert(place, row);
+    insert_ready(rows, place, row);
+}
+
+/// Puts a value where a place is free.
+pub fn insert_ready<T: Drop>(list: &mut Vec<T>, place: usize, item: T)
+    requires place { place ≤ vec_len list.old }
+    requires ready { vec_len list.old < vec_capacity list.old }
+    ensures { list.new.items ≡ insert list.old.items place item }
+{
+    let _ = list.insert(place, item);
 }
 
 /// Gives the row with this id a new payload: the position that gave it and its size.

@@ -3,7 +3,9 @@ ghost use Rattle.std.specs.Prelude.{◌≡◌, ◌≤◌, IsTrue, length};
 ghost use Rattle.delf_model.specs.Graph.{objects_rise};
 ghost use Rattle.object_shards.specs.Rows.{least_of};
 
-use crate::rows::{due_after, least_due_of, object_with, put_row, rewrite_row, take_row};
+use crate::rows::{
+    due_after, least_due_of, lesser_due, object_with, put_row, rewrite_row, take_row,
+};
 use delf_model::{Moment, ObjectId, ObjectRow};
 use std::alloc::{AllocError, Global};
 
@@ -84,10 +86,9 @@ impl Shard {
         ensures low { self.new.low ≡ self.old.low }
         ensures rows { self.new.rows.items ≡ with_row row self.old.rows.items }
     {
+        let least = lesser_due(row.due, self.least);
         put_row(&mut self.rows, row);
-        if 0 < row.due && row.due < self.least {
-            self.least = row.due;
-        }
+        self.least = least;
     }
 
     /// Gives the row with this id a new payload.
@@ -104,11 +105,15 @@ impl Shard {
         ensures low { self.new.low ≡ self.old.low }
         ensures rows { self.new.rows.items ≡ filter (is_other_object id) self.old.rows.items }
     {
-        let row = take_row(&mut self.rows, id)?;
-        if row.due == self.least {
-            self.least = least_due_of(&self.rows);
+        match take_row(&mut self.rows, id) {
+            Some(row) => {
+                if row.due == self.least {
+                    self.least = least_due_of(&self.rows);
+                }
+                Some(row)
+            }
+            None => None,
         }
-        Some(row)
     }
 
     /// Keeps the first rows alone.

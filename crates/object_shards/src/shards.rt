@@ -1,5 +1,5 @@
 //! Shards by rising ids: the shard of an id, the look-ups, and the calls that change one shard.
-ghost use Rattle.std.specs.Prelude.{◌≡◌, ℕ, ◌<◌, ◌≤◌, IsTrue, false, IfOk, OnOk, Some, None, slice_get, find, filter, map, length, slice_index};
+ghost use Rattle.std.specs.Prelude.{◌≡◌, ℕ, ◌<◌, ◌≤◌, IsTrue, false, IfOk, OnOk, Some, None, slice_get, find, filter, map, length, drop, slice_index};
 ghost use Rattle.delf_model.specs.Graph.{has_id, put_object as with_row, rewritten, is_other_object};
 ghost use Rattle.delf_model.specs.Store.{least_due};
 ghost use Rattle.object_shards.specs.Shards.{start, stand, shard_place, rows_of, dues_of, has_room, ready_in};
@@ -45,16 +45,26 @@ pub fn first_due(shards: &[Shard], moment: Moment, from: usize) -> usize
     shards.len()
 }
 
+/// The place of the first shard that may hold an id above `after`.
+fn place_after(shards: &[Shard], after: Option<ObjectId>) -> usize
+    requires stand { IsTrue (stand shards.now) }
+    requires first { start shards.now ≡ 0 }
+    ensures within { result ≤ length shards.now }
+    ensures passed { (moment : ℕ) → least_due moment after (rows_of shards.now) ≡ least_due moment after (rows_of (drop result shards.now)) }
+{
+    match after {
+        Some(id) => place_of(shards, id),
+        None => 0,
+    }
+}
+
 /// The least id above `after` whose due is above 0 and at most this moment.
 pub fn due_after(shards: &[Shard], moment: Moment, after: Option<ObjectId>) -> Option<ObjectId>
     requires stand { IsTrue (stand shards.now) }
     requires first { start shards.now ≡ 0 }
     ensures { result ≡ least_due moment after (rows_of shards.now) }
 {
-    let mut from = match after {
-        Some(id) => place_of(shards, id),
-        None => 0,
-    };
+    let mut from = place_after(shards, after);
     'dues: while from < shards.len() {
         let place = first_due(shards, moment, from);
         if place >= shards.len() {
