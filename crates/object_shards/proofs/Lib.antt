@@ -1,3 +1,4 @@
 pub mod Ids
 pub mod Within
 pub mod Dues
+pub mod Parts

@@ -177,8 +177,19 @@ pub fn take(shards: &mut Vec<Shard>, id: ObjectId) -> Option<ObjectRow>
 {
     let place = place_of(shards, id);
     let row = shards[place].take(id);
+    drop_empty(shards, place);
+    row
+}
+
+/// Drops the shard at this place where it has no row, but for the first.
+fn drop_empty(shards: &mut Vec<Shard>, place: usize)
+    requires stand { IsTrue (stand shards.old.items) }
+    requires within { place < length shards.old.items }
+    ensures stand { IsTrue (stand shards.new.items) }
+    ensures first { start shards.new.items ≡ start shards.old.items }
+    ensures rows { rows_of shards.new.items ≡ rows_of shards.old.items }
+{
     if place > 0 && shards[place].rows.is_empty() {
         shards.remove(place);
     }
-    row
 }
