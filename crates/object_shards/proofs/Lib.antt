@@ -2,3 +2,5 @@ pub mod Ids
 pub mod Within
 pub mod Dues
 pub mod Parts
+pub mod Halves
+pub mod Moments

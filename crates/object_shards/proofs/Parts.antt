@@ -33,7 +33,7 @@ stands_from s ss apart inside rest =
     (and_from (ltb s.low (start ss)) (ids_within s.low (start ss) s.rows.items) one inside) rest
 
 -- the same beside shards that begin at the same id
-stands_beside : (s new : Shard) (ss others : List Shard) → new.low ≡ s.low → start others ≡ start ss → s.low < start ss →
+pub stands_beside : (s new : Shard) (ss others : List Shard) → new.low ≡ s.low → start others ≡ start ss → s.low < start ss →
     ids_within s.low (start ss) new.rows.items ≡ true → stand others ≡ true → stand (new ∷ others) ≡ true
 stands_beside s new ss others low begins apart inside rest =
     stands_from new others (omega arith)
@@ -280,3 +280,52 @@ drop_at ss (suc k) s h above below is none = dropped ss k s h (got_at ss (suc k)
 pub none_of_length : {X : Type 0} (xs : List X) → length xs ≡ 0 → xs ≡ []
 none_of_length [] h = refl
 none_of_length (x ∷ xs) h = absurd (omega arith)
+
+-- a shard with more room in its place
+roomier : (ss : List Shard) (k other : ℕ) (s new : Shard) → slice_get ss k ≡ Some s → new.low ≡ s.low → (has_room s ≡ true → has_room new ≡ true) →
+    (ready_in other ss ≡ true → ready_in other (set ss k new) ≡ true) × (start (set ss k new) ≡ start ss)
+roomier [] k other s new is low more = absurd (cc is)
+roomier (x ∷ xs) zero other s new is low more =
+    let same : x ≡ s = cc is in
+    (go (ltb other (start xs)) (ap has_room same), low ∙ ap (λ (t : Shard). t.low) (sym same))
+  where
+    go : (b : Bool) → has_room x ≡ has_room s → cond b (has_room x) (ready_in other xs) ≡ true → cond b (has_room new) (ready_in other xs) ≡ true
+    go true same ready = more (sym same ∙ ready)
+    go false same ready = ready
+roomier (x ∷ xs) (suc k) other s new is low more =
+    let rest = roomier xs k other s new is low more in
+    (λ ready. ap (λ (n : ℕ). cond (ltb other n) (has_room x) (ready_in other (set xs k new))) rest.1 ∙ go (ltb other (start xs)) rest.0 ready, refl)
+  where
+    go : (b : Bool) → (ready_in other xs ≡ true → ready_in other (set xs k new) ≡ true) → cond b (has_room x) (ready_in other xs) ≡ true →
+        cond b (has_room x) (ready_in other (set xs k new)) ≡ true
+    go true rest ready = ready
+    go false rest ready = rest ready
+
+pub kept_at : (old : List Shard) (k other : ℕ) (s new : Shard) → k < length old → s ≡ get_or old k s → new.low ≡ s.low →
+    (has_room s ≡ true → has_room new ≡ true) → ready_in other old ≡ true → ready_in other (set old k new) ≡ true
+kept_at old k other s new below is low more ready = (roomier old k other s new (got_at old k s s below is) low more).0 ready
+
+made_ready : (ss : List Shard) (id : ℕ) (s new : Shard) → slice_get ss (shard_place id ss) ≡ Some s → new.low ≡ s.low → has_room new ≡ true →
+    ready_in id (set ss (shard_place id ss) new) ≡ true
+made_ready [] id s new is low room = absurd (cc is)
+made_ready (x ∷ xs) id s new is low room = go (at_where id x s xs is) (λ later. made_ready xs id s new later low room)
+  where
+    go : At id x s xs → (slice_get xs (shard_place id xs) ≡ Some s → ready_in id (set xs (shard_place id xs) new) ≡ true) →
+        ready_in id (set (x ∷ xs) (shard_place id (x ∷ xs)) new) ≡ true
+    go (Here here under place) rest =
+        let before : ltb id (start xs) ≡ true = grind (arith, nat_tests) in
+        ap (λ (n : ℕ). ready_in id (set (x ∷ xs) n new)) place ∙
+        (ap (λ (b : Bool). cond b (has_room new) (ready_in id xs)) before ∙ room)
+    go (Later past later place) rest =
+        let begins : start (set xs (shard_place id xs) new) ≡ start xs = (roomier xs (shard_place id xs) id s new later low (λ old. room)).1 in
+        let after : ltb id (start xs) ≡ false = grind (arith, nat_tests) in
+        ap (λ (n : ℕ). ready_in id (set (x ∷ xs) n new)) place ∙
+        (ap (λ (n : ℕ). cond (ltb id n) (has_room x) (ready_in id (set xs (shard_place id xs) new))) begins ∙
+        (ap (λ (b : Bool). cond b (has_room x) (ready_in id (set xs (shard_place id xs) new))) after ∙ rest later))
+
+pub ready_at : (old seen : List Shard) (id k : ℕ) (s new : Shard) → seen ≡ old → k ≡ shard_place id seen → k < length seen → s ≡ get_or old k s →
+    new.low ≡ s.low → has_room new ≡ true → ready_in id (set old k new) ≡ true
+ready_at old seen id k s new same place below is low room =
+    let at : k ≡ shard_place id old = place ∙ ap (λ (ss : List Shard). shard_place id ss) same in
+    subst (λ (n : ℕ). ready_in id (set old n new) ≡ true) (sym at)
+    (made_ready old id s new (at_shard old seen id k s same place below is) low room)

@@ -26,18 +26,18 @@ pub struct Shard {
 }
 
 impl Shard {
-    ghost use Rattle.std.specs.Prelude.{◌<◌, ◌+◌, IfOk, OnOk, IsOk, None, find, filter, map, take, drop, vec_len, vec_capacity};
+    ghost use Rattle.std.specs.Prelude.{◌<◌, ◌+◌, ◌/◌, IfOk, OnOk, Some, None, find, filter, map, take, drop, slice_get, vec_capacity};
     ghost use Rattle.delf_model.specs.Graph.{has_id, put_object as with_row, rewritten, is_other_object};
-    ghost use Rattle.delf_model.specs.Store.{least_due};
+    ghost use Rattle.delf_model.specs.Store.{least_due, id_of_row};
     ghost use Rattle.object_shards.specs.Shards.{has_room};
 
     /// A shard of these rows, with room for all that a shard holds. The only error is want of memory.
     pub fn of(alloc: Global, low: u64, rows: &[ObjectRow]) -> Result<Shard, AllocError>
         requires rise { IsTrue (objects_rise rows.now) }
-        requires few { length rows.now ≤ 256 }
+        requires few { length rows.now < 256 }
         ensures low { IfOk result (λ shard. shard.low ≡ low) }
         ensures rows { IfOk result (λ shard. shard.rows.items ≡ rows.now) }
-        ensures room { IfOk result (λ shard. 256 ≤ vec_capacity shard.rows) }
+        ensures room { IfOk result (λ shard. IsTrue (has_room shard)) }
     {
         let mut held = Vec::with_capacity(alloc, SHARD_ROWS)?;
         held.extend_from_slice(rows)?;
@@ -71,10 +71,11 @@ impl Shard {
 
     /// Makes room for all that a shard holds. The only error is want of memory.
     pub fn reserve(&mut self) -> Result<(), AllocError>
+        requires { length self.old.rows.items < 256 }
         ensures low { self.new.low ≡ self.old.low }
         ensures rows { self.new.rows.items ≡ self.old.rows.items }
         ensures kept { IsTrue (has_room self.old) → IsTrue (has_room self.new) }
-        ensures room { OnOk result (256 ≤ vec_capacity self.new.rows) }
+        ensures room { OnOk result (IsTrue (has_room self.new)) }
     {
         self.rows.reserve(SHARD_ROWS - self.rows.len())
     }
@@ -116,14 +117,27 @@ impl Shard {
         }
     }
 
-    /// Keeps the first rows alone.
-    pub fn truncate(&mut self, len: usize)
-        requires { len < length self.old.rows.items }
-        ensures low { self.new.low ≡ self.old.low }
-        ensures rows { self.new.rows.items ≡ take len self.old.rows.items }
-        ensures capacity { vec_capacity self.new.rows ≡ vec_capacity self.old.rows }
+    /// The upper half of the rows as a shard of their own, with room for all that a shard holds. The only error is want of memory.
+    pub fn upper_half(&self, alloc: Global) -> Result<Shard, AllocError>
+        requires { 2 ≤ length self.now.rows.items }
+        ensures low { IfOk result (λ upper. id_of_row (slice_get self.now.rows.items (length self.now.rows.items / 2)) ≡ Some upper.low) }
+        ensures rows { IfOk result (λ upper. upper.rows.items ≡ drop (length self.now.rows.items / 2) self.now.rows.items) }
+        ensures room { IfOk result (λ upper. IsTrue (has_room upper)) }
     {
-        self.rows.truncate(len);
+        let middle = self.rows.len() / 2;
+        let low = self.rows[middle].id.get();
+        Shard::of(alloc, low, &self.rows[middle..])
+    }
+
+    /// Keeps the lower half of the rows alone.
+    pub fn keep_lower_half(&mut self)
+        requires { 2 ≤ length self.old.rows.items }
+        ensures low { self.new.low ≡ self.old.low }
+        ensures rows { self.new.rows.items ≡ take (length self.old.rows.items / 2) self.old.rows.items }
+        ensures room { IsTrue (has_room self.new) }
+    {
+        let middle = self.rows.len() / 2;
+        self.rows.truncate(middle);
         self.least = least_due_of(&self.rows);
     }
 }

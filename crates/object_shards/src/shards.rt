@@ -4,6 +4,7 @@ ghost use Rattle.delf_model.specs.Graph.{has_id, put_object as with_row, rewritt
 ghost use Rattle.delf_model.specs.Store.{least_due};
 ghost use Rattle.object_shards.specs.Shards.{start, stand, shard_place, rows_of, dues_of, has_room, ready_in};
 
+use crate::rows::insert_ready;
 use crate::shard::{SHARD_ROWS, Shard};
 use delf_model::{Moment, ObjectId, ObjectRow};
 use std::alloc::{AllocError, Global};
@@ -64,15 +65,27 @@ pub fn due_after(shards: &[Shard], moment: Moment, after: Option<ObjectId>) -> O
     requires first { start shards.now ≡ 0 }
     ensures { result ≡ least_due moment after (rows_of shards.now) }
 {
-    let mut from = place_after(shards, after);
+    due_from(shards, place_after(shards, after), moment, &after)
+}
+
+/// The least id above `after` in the shards from this place on whose due is above 0 and at most this moment.
+fn due_from(
+    shards: &[Shard],
+    from: usize,
+    moment: Moment,
+    after: &Option<ObjectId>,
+) -> Option<ObjectId>
+    requires { from ≤ length shards.now }
+    ensures { result ≡ least_due moment after.now (rows_of (drop from shards.now)) }
+{
+    let mut from = from;
     'dues: while from < shards.len() {
         let place = first_due(shards, moment, from);
         if place >= shards.len() {
             return None;
         }
-        let due = shards[place].due(moment, after);
-        if due.is_some() {
-            return due;
+        if let Some(id) = shards[place].due(moment, *after) {
+            return Some(id);
         }
         from = place + 1;
     }
@@ -131,12 +144,10 @@ fn part(alloc: Global, shards: &mut Vec<Shard>, place: usize) -> Result<(), Allo
     ensures ready { OnOk result ((id : ℕ) → shard_place id shards.old.items ≡ place → IsTrue (ready_in id shards.new.items)) }
     ensures kept { (other : ℕ) → IsTrue (ready_in other shards.old.items) → IsTrue (ready_in other shards.new.items) }
 {
+    let upper = shards[place].upper_half(alloc)?;
     shards.reserve(1)?;
-    let rows = &shards[place].rows;
-    let middle = rows.len() / 2;
-    let upper = Shard::of(alloc, rows[middle].id.get(), &rows[middle..])?;
-    shards[place].truncate(middle);
-    let _ = shards.insert(place + 1, upper);
+    shards[place].keep_lower_half();
+    insert_ready(shards, place + 1, upper);
     Ok(())
 }
 
