@@ -1,15 +1,13 @@
 -- The least due of rows after each change, and what it says of the rows that are due.
-use Rattle.std.proofs.Common.{◌≡◌, ℕ, suc, ◌+◌, ◌≤◌, ◌<◌, ◌≢◌, Bool, true, false, not, ◌&&◌, cond, eqb, ltb, leb, map, Option, Some, None, List, [], ◌∷◌, ◌++◌, length, refl, sym, ap, subst, ◌∙◌, arith}
+use Rattle.std.proofs.Common.{◌≡◌, ℕ, ◌+◌, ◌≤◌, ◌<◌, ◌≢◌, Bool, true, false, not, ◌&&◌, cond, eqb, ltb, leb, map, Option, Some, None, List, [], ◌∷◌, length, refl, sym, ap, ◌∙◌, arith}
 use Rattle.std.proofs.lemmas.Bool.Decides.{nat_tests}
-use Rattle.std.proofs.lemmas.Bool.{and_parts, and_from}
-use Rattle.std.proofs.lemmas.Grind.{common_steps}
 use Rattle.std.specs.Prelude.{find, filter}
 use Rattle.delf_model.specs.declared.rows.ObjectRow.{ObjectRow}
-use Rattle.delf_model.specs.Graph.{has_id, put_object, is_other_object, rewritten, rises_after, objects_rise}
+use Rattle.delf_model.specs.Graph.{has_id, put_object, is_other_object, rewritten, objects_rise}
 use Rattle.delf_model.specs.Store.{is_above, is_due_after}
 use Rattle.object_shards.specs.Rows.{lesser_due, least_of, ids_within}
 use Rattle.object_shards.proofs.Ids.{other_first, filter_none, none_above, rise_rest}
-use Rattle.object_shards.proofs.Within.{First, first_of_within}
+use Rattle.object_shards.proofs.Within.{first_of_within}
 
 pub lesser_swap : (a b least : ℕ) → lesser_due a (lesser_due b least) ≡ lesser_due b (lesser_due a least)
 lesser_swap a b least = grind (arith, nat_tests)

@@ -1,8 +1,8 @@
 -- A shard that is parted in two halves of its rows.
-use Rattle.std.proofs.Common.{◌≡◌, ℕ, zero, suc, ◌+◌, ◌/◌, ◌≤◌, ◌<◌, Bool, true, false, cond, ltb, leb, Option, Some, None, List, [], ◌∷◌, ◌++◌, length, get_or, take, drop, refl, sym, ap, subst, ◌∙◌, add-one, arith}
+use Rattle.std.proofs.Common.{◌≡◌, ℕ, zero, suc, ◌+◌, ◌/◌, ◌≤◌, ◌<◌, Bool, true, false, cond, ltb, Option, Some, None, List, [], ◌∷◌, ◌++◌, length, get_or, take, drop, refl, sym, ap, subst, ◌∙◌, add-one, arith}
 use Rattle.std.proofs.Math.ListN.{set}
 use Rattle.std.proofs.lemmas.Bool.Decides.{nat_tests}
-use Rattle.std.proofs.lemmas.Bool.{and_parts, and_from}
+use Rattle.std.proofs.lemmas.Bool.{and_parts}
 use Rattle.std.proofs.lemmas.List.{append_assoc}
 use Rattle.std.specs.Prelude.{slice_get}
 use Rattle.std.specs.List.{insert}
@@ -13,8 +13,8 @@ use Rattle.object_shards.specs.declared.shard.Shard.{Shard}
 use Rattle.object_shards.specs.Rows.{ids_within}
 use Rattle.object_shards.specs.Shards.{rows_of, start, stand, shard_place, has_room, ready_in}
 use Rattle.object_shards.proofs.Ids.{rise_rest}
-use Rattle.object_shards.proofs.Within.{First, first_of_within, within_from, within_wider}
-use Rattle.object_shards.proofs.Parts.{Stands, stands_first, stands_from, stands_beside, got_at}
+use Rattle.object_shards.proofs.Within.{first_of_within, within_from, within_wider}
+use Rattle.object_shards.proofs.Parts.{stands_first, stands_from, stands_beside, got_at}
 
 rises_above : (low : ℕ) (xs : List ObjectRow) (k : ℕ) (row : ObjectRow) → rises_after low xs ≡ true → slice_get xs k ≡ Some row → low < row.id
 rises_above low [] k row rise is = absurd (cc is)

@@ -1,5 +1,5 @@
 -- Rows by rising id: the place of an id, and what keeps the order.
-use Rattle.std.proofs.Common.{◌≡◌, ℕ, zero, suc, ◌+◌, ◌≤◌, ◌<◌, Bool, true, false, not, cond, eqb, ltb, map, Option, Some, None, List, [], ◌∷◌, length, get_or, take, drop, refl, sym, ap, subst, ◌∙◌, arith}
+use Rattle.std.proofs.Common.{◌≡◌, ℕ, zero, suc, ◌≤◌, ◌<◌, Bool, true, false, not, cond, eqb, ltb, map, Option, Some, None, List, [], ◌∷◌, length, get_or, take, drop, refl, sym, ap, subst, ◌∙◌, arith}
 use Rattle.std.proofs.lemmas.Bool.Decides.{nat_tests}
 use Rattle.std.proofs.lemmas.Bool.{and_parts, and_from}
 use Rattle.std.proofs.lemmas.Grind.{common_steps}
@@ -8,7 +8,7 @@ use Rattle.std.specs.List.{insert, remove}
 use Rattle.std.proofs.Math.ListN.{set}
 use Rattle.delf_model.specs.declared.rows.ObjectRow.{ObjectRow}
 use Rattle.delf_model.specs.Graph.{has_id, put_object, is_other_object, rewritten, rises_after, objects_rise}
-use Rattle.object_shards.specs.Rows.{place_in, lesser_due, least_of, ids_within}
+use Rattle.object_shards.specs.Rows.{place_in}
 
 pub rise_rest : (low : ℕ) (rows : List ObjectRow) → rises_after low rows ≡ true → objects_rise rows ≡ true
 rise_rest low [] rise = refl

@@ -4,3 +4,4 @@ pub mod Dues
 pub mod Parts
 pub mod Halves
 pub mod Moments
+pub mod Laws

@@ -1,15 +1,14 @@
 -- The first row that is due: shards that are passed over hold none.
-use Rattle.std.proofs.Common.{◌≡◌, ℕ, zero, suc, ◌+◌, ◌-◌, ◌≤◌, ◌<◌, Bool, true, false, cond, ltb, map, Option, Some, None, List, [], ◌∷◌, ◌++◌, length, get_or, drop, refl, sym, ap, subst, ◌∙◌, add-one, arith}
+use Rattle.std.proofs.Common.{◌≡◌, ℕ, zero, suc, ◌+◌, ◌-◌, ◌≤◌, ◌<◌, Bool, true, false, cond, ltb, Option, Some, None, List, [], ◌∷◌, ◌++◌, length, get_or, drop, refl, sym, ap, subst, ◌∙◌, add-one, arith}
 use Rattle.std.proofs.lemmas.Bool.Decides.{nat_tests}
-use Rattle.std.specs.Prelude.{find, slice_get, is_some, slice_index}
+use Rattle.std.specs.Prelude.{find, slice_get}
 use Rattle.delf_model.specs.declared.rows.ObjectRow.{ObjectRow}
 use Rattle.delf_model.specs.Store.{is_due_after, id_of_row, least_due}
 use Rattle.object_shards.specs.declared.shard.Shard.{Shard}
-use Rattle.object_shards.specs.Rows.{least_of, ids_within}
 use Rattle.object_shards.specs.Shards.{rows_of, dues_of, start, stand, shard_place}
 use Rattle.object_shards.proofs.Within.{find_back, find_first}
 use Rattle.object_shards.proofs.Dues.{none_due, none_after}
-use Rattle.object_shards.proofs.Parts.{Stands, stands_first, got_at}
+use Rattle.object_shards.proofs.Parts.{stands_first, got_at}
 
 -- the shards before that of an id hold none above it
 after_found : (ss : List Shard) (moment id : ℕ) → stand ss ≡ true →

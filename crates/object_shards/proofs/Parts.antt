@@ -1,18 +1,17 @@
 -- Shards by rising ids: the shard of an id, a change of one shard, a shard that is parted or dropped.
-use Rattle.std.proofs.Common.{◌≡◌, ℕ, zero, suc, ◌+◌, ◌≤◌, ◌<◌, ◌≢◌, Bool, true, false, not, ◌&&◌, cond, eqb, ltb, leb, map, Option, Some, None, List, [], ◌∷◌, ◌++◌, length, get_or, take, drop, refl, sym, ap, subst, ◌∙◌, add-one, arith}
+use Rattle.std.proofs.Common.{◌≡◌, ℕ, zero, suc, ◌+◌, ◌≤◌, ◌<◌, Bool, true, false, ◌&&◌, cond, ltb, Some, List, [], ◌∷◌, ◌++◌, length, get_or, take, refl, sym, ap, subst, ◌∙◌, add-one, arith}
 use Rattle.std.proofs.Math.ListN.{set}
 use Rattle.std.proofs.lemmas.Bool.Decides.{nat_tests}
 use Rattle.std.proofs.lemmas.Bool.{and_parts, and_from}
-use Rattle.std.proofs.lemmas.Grind.{common_steps}
 use Rattle.std.proofs.lemmas.List.{append_assoc, append-nil}
-use Rattle.std.specs.Prelude.{find, filter, slice_get}
-use Rattle.std.specs.List.{insert, remove}
+use Rattle.std.specs.Prelude.{find, slice_get}
+use Rattle.std.specs.List.{remove}
 use Rattle.delf_model.specs.declared.rows.ObjectRow.{ObjectRow}
-use Rattle.delf_model.specs.Graph.{has_id, put_object, is_other_object, rewritten, rises_after, objects_rise}
+use Rattle.delf_model.specs.Graph.{has_id, rises_after, objects_rise}
 use Rattle.object_shards.specs.declared.shard.Shard.{Shard}
-use Rattle.object_shards.specs.Rows.{least_of, ids_within}
+use Rattle.object_shards.specs.Rows.{ids_within}
 use Rattle.object_shards.specs.Shards.{rows_of, start, stand, shard_place, has_room, ready_in}
-use Rattle.object_shards.proofs.Within.{First, first_of_within, within_wider, within_append, none_under, none_past, find_front, find_back, IsLocal}
+use Rattle.object_shards.proofs.Within.{first_of_within, within_wider, within_append, none_under, none_past, find_front, find_back, IsLocal}
 
 pub record Stands (s : Shard) (ss : List Shard) : Type 0 where
   pub apart : s.low < start ss

@@ -1,15 +1,13 @@
 -- Rows whose ids stand between two bounds: what each change of them keeps, and what it does to rows before and after them.
-use Rattle.std.proofs.Common.{◌≡◌, ℕ, zero, suc, ◌+◌, ◌≤◌, ◌<◌, ◌≢◌, Bool, true, false, not, ◌&&◌, cond, eqb, ltb, leb, map, Option, Some, None, List, [], ◌∷◌, ◌++◌, length, take, drop, refl, sym, ap, subst, ◌∙◌, arith}
+use Rattle.std.proofs.Common.{◌≡◌, ℕ, zero, suc, ◌≤◌, ◌<◌, Bool, true, false, ◌&&◌, cond, eqb, ltb, leb, map, Option, Some, None, List, [], ◌∷◌, ◌++◌, take, drop, refl, sym, ap, subst, ◌∙◌, arith}
 use Rattle.std.proofs.lemmas.Bool.Decides.{nat_tests}
 use Rattle.std.proofs.lemmas.Bool.{and_parts, and_from}
-use Rattle.std.proofs.lemmas.Grind.{common_steps}
 use Rattle.std.proofs.lemmas.List.{map-append}
 use Rattle.std.proofs.lemmas.List.Elements.{filter-append}
 use Rattle.std.specs.Prelude.{find, filter}
 use Rattle.delf_model.specs.declared.rows.ObjectRow.{ObjectRow}
-use Rattle.delf_model.specs.Graph.{has_id, put_object, is_other_object, rewritten, rises_after, objects_rise}
-use Rattle.delf_model.specs.Store.{is_above, is_due_after}
-use Rattle.object_shards.specs.Rows.{lesser_due, least_of, ids_within}
+use Rattle.delf_model.specs.Graph.{has_id, put_object, is_other_object, rewritten}
+use Rattle.object_shards.specs.Rows.{ids_within}
 use Rattle.object_shards.proofs.Ids.{map_none, filter_none, same_id}
 
 pub record First (low high : ℕ) (x : ObjectRow) (xs : List ObjectRow) : Type 0 where

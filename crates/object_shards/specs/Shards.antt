@@ -1,5 +1,5 @@
 -- What a list of shards stands for, and what every such list meets.
-use Rattle.std.specs.Prelude.{ℕ, suc, Bool, true, false, ◌&&◌, List, [], ◌∷◌, ◌++◌, length, map, nat_lt, if◌then◌else◌, vec_len, vec_capacity}
+use Rattle.std.specs.Prelude.{ℕ, suc, Bool, true, false, ◌&&◌, List, [], ◌∷◌, ◌++◌, map, nat_lt, if◌then◌else◌, vec_len, vec_capacity}
 use Rattle.delf_model.specs.declared.rows.ObjectRow.{ObjectRow}
 use Rattle.object_shards.specs.declared.shard.Shard.{Shard}
 use Rattle.object_shards.specs.Rows.{ids_within}

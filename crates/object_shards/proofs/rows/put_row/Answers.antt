@@ -1,9 +1,7 @@
-use Rattle.std.proofs.Common.{◌≡◌, Some, None, List, length, sym, ap, subst, ◌∙◌, arith}
-use Rattle.std.specs.Prelude.{find, slice_get}
+use Rattle.std.proofs.Common.{◌≡◌, List, ap, ◌∙◌, arith}
 use Rattle.delf_model.specs.declared.rows.ObjectRow.{ObjectRow}
-use Rattle.delf_model.specs.Graph.{has_id}
 use Rattle.object_shards.specs.Rows.{place_in}
-use Rattle.object_shards.proofs.Ids.{place_within, place_of_put, at_place, set_place, remove_place, map_none, filter_none, find_other, find_past, find_found}
+use Rattle.object_shards.proofs.Ids.{place_within, place_of_put}
 use Rattle.object_shards.proofs.rows.put_row.Goals as goal
 
 pub insert_ready-requires-clause-place : goal.insert_ready-requires-clause-place

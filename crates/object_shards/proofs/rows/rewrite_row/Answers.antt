@@ -1,10 +1,8 @@
-use Rattle.std.proofs.Common.{◌≡◌, ℕ, Some, None, List, length, sym, ap, subst, ◌∙◌, arith}
-use Rattle.std.specs.Prelude.{find, slice_get}
+use Rattle.std.proofs.Common.{◌≡◌, ℕ, List, sym, ap, ◌∙◌, arith}
 use Rattle.delf_model.specs.declared.rows.ObjectRow.{ObjectRow}
-use Rattle.delf_model.specs.Graph.{has_id}
 use Rattle.std.proofs.Math.ListN.{set}
 use Rattle.object_shards.specs.Rows.{place_in}
-use Rattle.object_shards.proofs.Ids.{place_within, place_of_put, at_place, set_place, remove_place, map_none, filter_none, find_other, find_past, find_found}
+use Rattle.object_shards.proofs.Ids.{at_place, set_place, map_none, find_other, find_past}
 use Rattle.object_shards.proofs.rows.rewrite_row.Goals as goal
 
 pub returns-then-get : goal.returns-then-get

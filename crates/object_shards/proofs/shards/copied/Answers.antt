@@ -1,4 +1,4 @@
-use Rattle.std.proofs.Common.{sym, ◌∙◌, arith}
+use Rattle.std.proofs.Common.{arith}
 use Rattle.object_shards.proofs.Parts.{copied_more}
 use Rattle.object_shards.proofs.shards.copied.Goals as goal
 

@@ -1,11 +1,7 @@
 use Rattle.std.proofs.lemmas.Bool.Decides.{nat_tests}
-use Rattle.std.proofs.Common.{◌≡◌, ◌∙◌, true, None, List, map, sym, ap, subst, arith}
-use Rattle.std.specs.Prelude.{find, filter, slice_set}
-use Rattle.delf_model.specs.declared.rows.ObjectRow.{ObjectRow}
-use Rattle.delf_model.specs.Graph.{has_id, put_object, rewritten, is_other_object}
+use Rattle.std.proofs.Common.{◌≡◌, ◌∙◌, true, List, sym, ap, subst, arith}
 use Rattle.object_shards.specs.Shards.{rows_of, stand, start}
-use Rattle.object_shards.proofs.Within.{put_is_local, rewritten_is_local, filter_is_local}
-use Rattle.object_shards.proofs.Parts.{Edited, at_shard, edited_at, ready_room, find_in_shard, drop_at, none_of_length}
+use Rattle.object_shards.proofs.Parts.{drop_at, none_of_length}
 use Rattle.object_shards.specs.declared.shard.Shard.{Shard}
 use Rattle.object_shards.proofs.shards.drop_empty.Goals as goal
 

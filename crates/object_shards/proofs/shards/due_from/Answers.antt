@@ -1,4 +1,4 @@
-use Rattle.std.proofs.Common.{◌≡◌, ◌∙◌, sym, arith}
+use Rattle.std.proofs.Common.{◌∙◌, sym, arith}
 use Rattle.object_shards.proofs.Moments.{skip_to, skip_due, hit_due, none_left}
 use Rattle.object_shards.proofs.shards.due_from.Goals as goal
 

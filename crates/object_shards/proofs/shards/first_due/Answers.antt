@@ -1,4 +1,4 @@
-use Rattle.std.proofs.Common.{ap, sym, subst, ◌<◌, ℕ, below_more, arith}
+use Rattle.std.proofs.Common.{ap, arith}
 use Rattle.object_shards.proofs.Moments.{due_at, passed_more}
 use Rattle.object_shards.specs.declared.shard.Shard.{Shard}
 use Rattle.object_shards.specs.Shards.{dues_of}

@@ -1,13 +1,11 @@
-use Rattle.std.proofs.Common.{◌≡◌, ◌≤◌, ◌<◌, ◌∙◌, ℕ, true, false, Some, None, List, length, map, sym, ap, subst, arith}
-use Rattle.std.proofs.lemmas.Bool.Decides.{nat_tests}
-use Rattle.std.proofs.lemmas.Bool.{and_from}
-use Rattle.std.specs.Prelude.{slice_get, IsTrue, IfOk}
+use Rattle.std.proofs.Common.{◌≡◌, ◌<◌, ◌∙◌, length, sym, ap, arith}
+use Rattle.std.specs.Prelude.{IsTrue}
 use Rattle.std.proofs.lemmas.Result.{IfOk-weaker}
 use Rattle.std.proofs.Math.ListN.{set}
 use Rattle.object_shards.specs.declared.shard.Shard.{Shard}
-use Rattle.object_shards.specs.Shards.{rows_of, stand, start, has_room, ready_in}
+use Rattle.object_shards.specs.Shards.{has_room, ready_in}
 use Rattle.object_shards.proofs.Within.{same_is_local}
-use Rattle.object_shards.proofs.Parts.{Edited, at_shard, edited_at, kept_at, ready_at, room_ready, got_at}
+use Rattle.object_shards.proofs.Parts.{at_shard, edited_at, kept_at, ready_at, room_ready, got_at}
 use Rattle.object_shards.proofs.shards.make_room.Goals as goal
 
 pub returns-then-has_room-clause-ready : goal.returns-then-has_room-clause-ready
@@ -47,8 +45,8 @@ part-requires-clause-full c = λ shard is.
     (let within = c.place_of-place.ensures.within in let long = c.deref.ensures.len in let ok = c.args.shards.now.ok.0 in omega arith) in
     let first = got_at c.args.shards.now.items c.place_of-place.result c.index.result.now c.index.result.now below c.index.ensures in
     let second = got_at c.args.shards.now.items c.place_of-place.result c.index-2.result.now c.index-2.result.now below c.index-2.ensures in
-    let one : c.index.result.now ≡ shard = cc (first, is) in
-    let other : c.index-2.result.now ≡ shard = cc (second, is) in (
+    let one : c.index.result.now ≡ shard = cc first in
+    let other : c.index-2.result.now ≡ shard = cc second in (
       ap has_room (sym one) ∙ (sym c.has_room.ensures ∙ c.if-has_room.false),
       (let long = ap (λ (s : Shard). s.rows.len) other in let ok = shard.rows.ok.0 in omega arith),
     )

@@ -1,4 +1,4 @@
-use Rattle.std.proofs.Common.{◌≡◌, ℕ, ◌<◌, ◌≤◌, Some, List, false, length, get_or, refl}
+use Rattle.std.proofs.Common.{◌≡◌, ℕ, ◌<◌, ◌≤◌, Some, List, false, length, get_or}
 use Rattle.std.specs.Prelude.{slice_get}
 use Rattle.object_shards.specs.declared.shard.Shard.{Shard}
 use Rattle.object_shards.specs.Shards.{has_room}

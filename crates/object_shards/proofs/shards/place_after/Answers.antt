@@ -1,4 +1,4 @@
-use Rattle.std.proofs.Common.{◌≡◌, ◌∙◌, ℕ, Some, Option, List, ap, sym}
+use Rattle.std.proofs.Common.{◌∙◌, ℕ, Option, ap, sym}
 use Rattle.delf_model.specs.Store.{least_due}
 use Rattle.object_shards.specs.Shards.{rows_of}
 use Rattle.std.specs.Prelude.{drop}

@@ -1,10 +1,7 @@
-use Rattle.std.proofs.Common.{◌≡◌, ◌∙◌, true, None, List, map, sym, ap, subst, arith}
-use Rattle.std.specs.Prelude.{find, filter, slice_set}
-use Rattle.delf_model.specs.declared.rows.ObjectRow.{ObjectRow}
-use Rattle.delf_model.specs.Graph.{has_id, put_object, rewritten, is_other_object}
-use Rattle.object_shards.specs.Shards.{rows_of, stand, start}
-use Rattle.object_shards.proofs.Within.{put_is_local, rewritten_is_local, filter_is_local}
-use Rattle.object_shards.proofs.Parts.{Edited, at_shard, edited_at, ready_room, find_in_shard, drop_at, none_of_length}
+use Rattle.std.proofs.Common.{map}
+use Rattle.delf_model.specs.Graph.{rewritten}
+use Rattle.object_shards.proofs.Within.{rewritten_is_local}
+use Rattle.object_shards.proofs.Parts.{edited_at}
 use Rattle.object_shards.proofs.shards.rewrite.Goals as goal
 
 pub returns-clause-stand : goal.returns-clause-stand

@@ -1,10 +1,8 @@
-use Rattle.std.proofs.Common.{◌≡◌, ◌∙◌, true, None, List, map, sym, ap, subst, arith}
-use Rattle.std.specs.Prelude.{find, filter, slice_set}
-use Rattle.delf_model.specs.declared.rows.ObjectRow.{ObjectRow}
-use Rattle.delf_model.specs.Graph.{has_id, put_object, rewritten, is_other_object}
-use Rattle.object_shards.specs.Shards.{rows_of, stand, start}
-use Rattle.object_shards.proofs.Within.{put_is_local, rewritten_is_local, filter_is_local}
-use Rattle.object_shards.proofs.Parts.{Edited, at_shard, edited_at, ready_room, find_in_shard, drop_at, none_of_length}
+use Rattle.std.proofs.Common.{◌∙◌, sym}
+use Rattle.std.specs.Prelude.{filter}
+use Rattle.delf_model.specs.Graph.{is_other_object}
+use Rattle.object_shards.proofs.Within.{filter_is_local}
+use Rattle.object_shards.proofs.Parts.{at_shard, edited_at, find_in_shard}
 use Rattle.object_shards.proofs.shards.take.Goals as goal
 
 pub drop_empty-requires-clause-stand : goal.drop_empty-requires-clause-stand

@@ -1,12 +1,9 @@
-use Rattle.std.proofs.Common.{◌≡◌, ◌≤◌, ◌-◌, ◌/◌, ℕ, true, List, length, take, drop, map, sym, ap, subst, ◌∙◌, arith}
-use Rattle.std.specs.Prelude.{find, filter}
-use Rattle.std.proofs.lemmas.List.{length-map, length-take}
+use Rattle.std.proofs.Common.{◌≡◌, ◌≤◌, ◌/◌, true, List, length, sym, ap, subst, ◌∙◌, arith}
+use Rattle.std.proofs.lemmas.List.{length-take}
 use Rattle.delf_model.specs.declared.rows.ObjectRow.{ObjectRow}
 use Rattle.delf_model.specs.Graph.{objects_rise}
-use Rattle.delf_model.specs.Store.{id_of_row}
-use Rattle.object_shards.specs.Rows.{least_of, lesser_due}
-use Rattle.object_shards.proofs.Ids.{objects_rise_take, objects_rise_drop}
-use Rattle.object_shards.proofs.Parts.{got_at}
+use Rattle.object_shards.specs.Rows.{least_of}
+use Rattle.object_shards.proofs.Ids.{objects_rise_take}
 use Rattle.object_shards.proofs.shard.Shard.keep_lower_half.Goals as goal
 
 pub invariant_of-self : goal.invariant_of-self

@@ -1,13 +1,11 @@
-use Rattle.std.proofs.Common.{◌≡◌, ◌≤◌, ltb, true, List, length, take, map, sym, ap, subst, ◌∙◌, arith}
+use Rattle.std.proofs.Common.{◌≡◌, ◌≤◌, ltb, true, List, length, sym, ap, subst, ◌∙◌, arith}
 use Rattle.std.proofs.lemmas.Bool.Decides.{nat_tests}
 use Rattle.std.proofs.lemmas.Bool.{and_parts}
-use Rattle.std.specs.Prelude.{find, filter}
-use Rattle.std.proofs.lemmas.List.{length-map, length-take}
 use Rattle.delf_model.specs.declared.rows.ObjectRow.{ObjectRow}
-use Rattle.delf_model.specs.Graph.{objects_rise, put_object, rewritten, is_other_object, has_id}
+use Rattle.delf_model.specs.Graph.{objects_rise}
 use Rattle.object_shards.specs.Rows.{least_of, lesser_due}
-use Rattle.object_shards.proofs.Ids.{objects_rise_put, objects_rise_filter, objects_rise_rewritten, objects_rise_take}
-use Rattle.object_shards.proofs.Dues.{least_put, least_rewritten, least_kept, length-put_object, length-filter_object}
+use Rattle.object_shards.proofs.Ids.{objects_rise_put}
+use Rattle.object_shards.proofs.Dues.{least_put, length-put_object}
 use Rattle.object_shards.proofs.shard.Shard.put.Goals as goal
 
 pub invariant_of-self : goal.invariant_of-self

@@ -1,11 +1,9 @@
-use Rattle.std.proofs.Common.{◌≡◌, ◌≤◌, Option, Some, ◌-◌, ◌/◌, ℕ, true, List, length, take, drop, map, sym, ap, subst, ◌∙◌, arith}
-use Rattle.std.specs.Prelude.{slice_get, IfOk}
+use Rattle.std.proofs.Common.{◌≡◌, Option, Some, ◌-◌, ◌/◌, ℕ, true, List, length, drop, sym, ap, subst, ◌∙◌, arith}
+use Rattle.std.specs.Prelude.{slice_get}
 use Rattle.std.proofs.lemmas.Result.{IfOk-weaker}
-use Rattle.std.proofs.lemmas.List.{length-map, length-take}
 use Rattle.delf_model.specs.declared.rows.ObjectRow.{ObjectRow}
 use Rattle.delf_model.specs.Graph.{objects_rise}
 use Rattle.delf_model.specs.Store.{id_of_row}
-use Rattle.object_shards.specs.Rows.{least_of, lesser_due}
 use Rattle.object_shards.proofs.Ids.{objects_rise_take, objects_rise_drop}
 use Rattle.object_shards.proofs.Parts.{got_at}
 use Rattle.object_shards.proofs.shard.Shard.upper_half.Goals as goal
