@@ -35,11 +35,6 @@ fn draw(seed: u64) -> u64 {
         .wrapping_add(1_442_695_040_888_963_407)
 }
 
-/// The place of the row with this id in a plain list.
-fn found(rows: &[ObjectRow], id: ObjectId) -> Option<usize> {
-    rows.iter().position(|row| row.id.get() == id.get())
-}
-
 /// What the least due object is by a plain list.
 fn least_due(rows: &[ObjectRow], moment: u64, after: u64) -> u64 {
     for row in rows {
@@ -88,11 +83,9 @@ fn a_wave_is_taken_in_the_order_of_ids(rt: HostRuntime) -> Result<(), Fail> {
     for n in 1..2001 {
         add(&mut shards, row(n, if n % 3 == 0 { 5000 - n } else { 0 })?)?;
     }
-    let mut before = 0;
-    for _ in 0..666 {
+    for taken in 0..666u64 {
         let next = shards.next_due(5000, None).ok_or("none due")?;
-        assert_eq!(rt; next.get(), before + 3);
-        before += 3;
+        assert_eq!(rt; next.get(), 3 * taken + 3);
         assert!(rt; shards.take_object(next).is_some());
     }
     assert!(rt; shards.next_due(u64::MAX, None).is_none());
@@ -109,29 +102,25 @@ fn drawn_calls_agree_with_a_plain_list(rt: HostRuntime) -> Result<(), Fail> {
         seed = draw(seed);
         let n = id((seed >> 33) % 1500 + 1)?;
         let kind = (seed >> 20) % 8;
-        let place = found(&rows, n);
-        match place {
-            Some(place) => {
-                assert!(rt; shards.object(n) == Some(rows[place]));
-                if kind < 3 || step > 4500 {
-                    assert!(rt; shards.take_object(n).is_some());
-                    rows.remove(place);
-                } else {
-                    shards.rewrite_object(n, step, 9);
-                    rows[place] = ObjectRow {
-                        at: step,
-                        size: 9,
-                        ..rows[place]
-                    };
-                }
+        let held = rows.iter().find(|row| row.id.get() == n.get()).copied();
+        assert!(rt; shards.object(n) == held);
+        if held.is_none() {
+            assert!(rt; shards.take_object(n).is_none());
+            if step <= 4500 {
+                let new = row(n.get(), (seed >> 40) % 100)?;
+                assert!(rt; add(&mut shards, new)?);
+                let at = rows.iter().filter(|row| row.id.get() < n.get()).count();
+                rows.insert(at, new)?;
             }
-            None => {
-                assert!(rt; shards.take_object(n).is_none());
-                if step <= 4500 {
-                    let new = row(n.get(), (seed >> 40) % 100)?;
-                    assert!(rt; add(&mut shards, new)?);
-                    let at = rows.iter().filter(|row| row.id.get() < n.get()).count();
-                    rows.insert(at, new)?;
+        } else if kind < 3 || step > 4500 {
+            assert!(rt; shards.take_object(n) == held);
+            rows.retain(|row| row.id.get() != n.get());
+        } else if shards.object(n).is_some() {
+            shards.rewrite_object(n, step, 9);
+            for row in rows.iter_mut() {
+                if row.id.get() == n.get() {
+                    row.at = step;
+                    row.size = 9;
                 }
             }
         }
