@@ -1,0 +1,7 @@
+pub mod Ids
+pub mod Within
+pub mod Dues
+pub mod Parts
+pub mod Halves
+pub mod Moments
+pub mod Laws

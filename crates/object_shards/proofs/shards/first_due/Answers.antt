@@ -1,0 +1,14 @@
+use Rattle.std.proofs.Common.{ap, arith}
+use Rattle.object_shards.proofs.Moments.{due_at, passed_more}
+use Rattle.object_shards.specs.declared.shard.Shard.{Shard}
+use Rattle.object_shards.specs.Shards.{dues_of}
+use Rattle.object_shards.proofs.shards.first_due.Goals as goal
+
+pub loop-place-preserved : goal.loop-place-preserved
+loop-place-preserved c = record {
+  above = omega arith;
+  passed = passed_more (dues_of c.args.shards.now) c.args.moment c.args.from c.loop-place.place c.loop-place.invariant.passed
+      (let is = due_at c.args.shards.now c.loop-place.place c.index-shards-place.result (omega arith) c.index-shards-place.is in
+      let same = ap (λ (s : Shard). s.least) c.index-shards-place.is in
+      let later = c.if-shards-place.false in omega arith);
+}

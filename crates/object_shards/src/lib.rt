@@ -1,0 +1,11 @@
+//! The objects of the graph that the service keeps while it runs, in shards, so that no call but the copy of all rows scans them.
+#![tactic(auto)]
+
+mod object_shards;
+mod rows;
+mod shard;
+mod shards;
+#[cfg(test)]
+mod tests;
+
+pub use object_shards::ObjectShards;
