@@ -8,7 +8,7 @@ use Rattle.delf_model.specs.Step.{after}
 use Rattle.delf_model.specs.Legal.{Legal}
 use Rattle.delf_model.specs.Payloads.{Payloads}
 use Rattle.store_laws.specs.Stores.{StandBut}
-use Rattle.store_laws.specs.Moves.{RestIn, StandsFor}
+use Rattle.store_laws.specs.Moves.{StandsFor}
 use Rattle.store_laws.proofs.Appends.{rest_stand}
 use Rattle.delf_book.specs.Parts.{Interrupted}
 use Rattle.delf_book.specs.Books.{Booked}

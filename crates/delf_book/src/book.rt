@@ -108,7 +108,7 @@ impl<G: GraphStore, R: Rig> Book<G, R> {
         ensures alone { self.now.down ≡ false → self.now.beside ≡ None }
         ensures holds { Plain (R.Disk.told self.now.rig) (R.Disk.honest self.now.rig) → Holds R.Disk.seen R.Disk.may_leave self.now }
     {
-        let _down = self.down;
+        // The length tells that the history is legal.
         let _len = self.ledger.len();
     }
 
