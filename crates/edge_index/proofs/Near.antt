@@ -178,8 +178,8 @@ room_of_row key None some = absurd (cc)
 room_of_row key (Some link) some = refl
 
 -- the rows at an end are those of all edges that have it
-pub near_rows : (links : List Entry) (end : EdgeKey → EndKey) (near : EdgeKey → ℕ) → IsEnd end near → (id : ℕ) (order : List Place) →
-    Sorted links → IsOrderOf end links order → rows_near links order id ≡ filter (has_end near id) (rows_of links)
+pub near_rows : {spare : EdgeKey → Bool} (links : List Entry) (end : EdgeKey → EndKey) (near : EdgeKey → ℕ) → IsEnd end near → (id : ℕ) (order : List Place) →
+    Sorted links → IsOrderOf end spare links order → rows_near links order id ≡ filter (has_end near id) (rows_of links)
 near_rows links end near is id order sorted o =
     rows_one (rows_near links order id) (filter (has_end near id) (rows_of links)) (near_rises links end near is id order o.places o.rise)
     (rises_filter (has_end near id) (rows_of links) (rows_rise links sorted))

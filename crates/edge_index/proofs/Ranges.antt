@@ -5,7 +5,6 @@ use Rattle.std.proofs.lemmas.Grind.{common_steps}
 use Rattle.std.specs.Prelude.{filter, nat_eq, is_some}
 use Rattle.std.specs.List.{list_any}
 use Rattle.std.specs.Map.Iter.{TakesFirst}
-
 use Rattle.std.specs.declared.ops.Bound.TheVariants.{Included, Excluded}
 use Rattle.std.specs.BTreeMap.Range.{range_contains, entries_between}
 use Rattle.delf_model.specs.declared.rows.EdgeKey.{EdgeKey}

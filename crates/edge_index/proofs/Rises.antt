@@ -86,8 +86,8 @@ rows_one (x ∷ xs) (y ∷ ys) h k same =
         let found : find (has_key x.key) (y ∷ ys) ≡ Some y = subst (λ (q : EdgeKey). find (has_key q) (y ∷ ys) ≡ Some y) (sym keys) (find_first y ys) in
         let heads : x ≡ y = cc (find_first x xs, same x.key, found) in
         let rest : xs ≡ ys = more
-            (λ key. tail_case key x xs ys (same_key x.key key) refl h (subst (λ (q : EdgeKey). keys_rise_after q ys ≡ true) (sym keys) k)
-            (same key ∙ ap (λ (r : EdgeRow). find (has_key key) (r ∷ ys)) (sym heads))) in
+        (λ key. tail_case key x xs ys (same_key x.key key) refl h (subst (λ (q : EdgeKey). keys_rise_after q ys ≡ true) (sym keys) k)
+        (same key ∙ ap (λ (r : EdgeRow). find (has_key key) (r ∷ ys)) (sym heads))) in
         cc
 
 -- counts and lengths of the rows after one comes or goes
