@@ -1,19 +1,18 @@
 -- The counts beside the links, as an edge comes or goes.
-use Rattle.std.proofs.Common.{◌≡◌, ℕ, ◌+◌, ◌<◌, Bool, true, false, cond, ◌&&◌, ◌||◌, not, Option, Some, None, List, [], ◌∷◌, refl, sym, ap, subst, ◌∙◌, arith}
+use Rattle.std.proofs.Common.{◌≡◌, ℕ, ◌+◌, ◌<◌, Bool, true, false, cond, ◌&&◌, ◌||◌, Option, Some, None, List, [], ◌∷◌, refl, sym, ap, subst, ◌∙◌, arith}
 use Rattle.std.proofs.lemmas.Bool.{eq-eqb, and_parts, and_from}
 use Rattle.std.proofs.lemmas.Grind.{common_steps}
-use Rattle.std.specs.Prelude.{find, filter, count_by, nat_eq, is_some, if◌then◌else◌, IsTrue}
+use Rattle.std.specs.Prelude.{find, filter, count_by, nat_eq, is_some, if◌then◌else◌}
 use Rattle.std.specs.List.{filter_map, list_any}
 use Rattle.delf_model.specs.declared.rows.EdgeRow.{EdgeRow}
 use Rattle.delf_model.specs.declared.rows.EdgeKey.{EdgeKey}
-use Rattle.delf_model.specs.Graph.{same_key, has_key, put_edge, is_other_edge, edges_rise}
+use Rattle.delf_model.specs.Graph.{same_key, has_key, put_edge, is_other_edge}
 use Rattle.delf_model.specs.Store.{is_counted}
 use Rattle.delf_model.proofs.Graphs.{same_key_is}
 use Rattle.delf_model.proofs.Sums.{count_found}
-use Rattle.edge_index.specs.declared.ends.EndKey.{EndKey}
 use Rattle.edge_index.specs.declared.links.Link.{Link}
-use Rattle.edge_index.specs.Links.{Entry, rows_of, row_in, row_found, link_at, has_room}
-use Rattle.edge_index.specs.Ends.{at_target, is_near, has_near, rows_near, IsOrderOf}
+use Rattle.edge_index.specs.Links.{Entry, rows_of, row_in, row_found, has_room}
+use Rattle.edge_index.specs.Ends.{at_target, is_near, has_near, IsOrderOf}
 use Rattle.edge_index.specs.Refs.{refs_at, refs_of, row_counts, AreRefsOf}
 use Rattle.edge_index.proofs.Keys.{target_is}
 use Rattle.edge_index.proofs.Rises.{count_put, count_take, passes}

@@ -16,7 +16,7 @@ use Rattle.edge_index.specs.declared.links.Link.{Link}
 use Rattle.edge_index.specs.Keys.{edge_cmp}
 use Rattle.edge_index.specs.Links.{Entry, link_at, has_room}
 use Rattle.edge_index.specs.Ends.{end_cmp, place_of, stands_at, is_near, has_near, no_key, TellsApart, IsOrderOf}
-use Rattle.edge_index.proofs.Keys.{IsEnd, one_place, place_self, edge_equal}
+use Rattle.edge_index.proofs.Keys.{IsEnd, one_place, edge_equal}
 use Rattle.edge_index.proofs.Near.{Place}
 
 all_inserted : (end : EdgeKey → EndKey) (place : EndKey) (key : EdgeKey) → place ≡ end key → (order : List Place) → AllByRecursion (stands_at end) order →

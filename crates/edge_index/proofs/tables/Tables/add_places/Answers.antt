@@ -1,4 +1,4 @@
-use Rattle.std.proofs.Common.{◌≡◌, ◌<◌, None, Result, Ok, Err, OnErr, rules, sym, ap, subst, ◌∙◌, List, length}
+use Rattle.std.proofs.Common.{◌≡◌, ◌<◌, None, Result, Ok, Err, OnErr, sym, ap, subst, ◌∙◌, List, length}
 use Rattle.delf_model.specs.declared.rows.EdgeRow.{EdgeRow}
 use Rattle.delf_model.specs.Graph.{same_key}
 use Rattle.delf_model.proofs.Graphs.{same_key_refl}

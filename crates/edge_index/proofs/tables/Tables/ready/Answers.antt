@@ -1,4 +1,4 @@
-use Rattle.std.proofs.Common.{◌≡◌, List, sym, ap, ◌∙◌}
+use Rattle.std.proofs.Common.{List, sym, ap, ◌∙◌}
 use Rattle.edge_index.specs.Links.{Entry, has_room}
 use Rattle.edge_index.specs.Ends.{at_source, at_target}
 use Rattle.edge_index.proofs.Keys.{source_is, target_is}

@@ -1,15 +1,13 @@
-use Rattle.std.proofs.Common.{◌≡◌, ◌<◌, ℕ, Bool, rules, sym, ap, subst, ◌∙◌, List, length, arith}
-use Rattle.std.specs.Prelude.{find, filter, count_by}
+use Rattle.std.proofs.Common.{◌≡◌, ◌<◌, sym, ap, subst, ◌∙◌, List, length, arith}
+use Rattle.std.specs.Prelude.{filter}
 use Rattle.std.specs.List.{slice_get}
 use Rattle.delf_model.specs.declared.rows.EdgeRow.{EdgeRow}
 use Rattle.delf_model.specs.declared.schema.EdgeShape.{EdgeShape}
-use Rattle.delf_model.specs.Graph.{same_key, has_key, is_other_edge}
-use Rattle.delf_model.specs.Store.{is_counted}
+use Rattle.delf_model.specs.Graph.{same_key, is_other_edge}
 use Rattle.delf_model.specs.RuleSet.{is_refcount_shape}
-use Rattle.edge_index.specs.declared.ends.EndKey.{EndKey}
 use Rattle.edge_index.specs.Links.{rows_of}
-use Rattle.edge_index.specs.Ends.{at_source, at_target, IsOrderOf}
-use Rattle.edge_index.specs.Refs.{refs_of, row_counts}
+use Rattle.edge_index.specs.Ends.{at_source, at_target}
+use Rattle.edge_index.specs.Refs.{row_counts}
 use Rattle.edge_index.specs.Tables.{counts}
 use Rattle.edge_index.proofs.Keys.{source_is, target_is}
 use Rattle.edge_index.proofs.Rises.{length_filter}
