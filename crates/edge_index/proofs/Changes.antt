@@ -1,19 +1,18 @@
 -- The counts beside the links, as an edge comes or goes.
-use Rattle.std.proofs.Common.{◌≡◌, ℕ, ◌+◌, ◌<◌, Bool, true, false, cond, ◌&&◌, ◌||◌, not, Option, Some, None, List, [], ◌∷◌, refl, sym, ap, subst, ◌∙◌, arith}
+use Rattle.std.proofs.Common.{◌≡◌, ℕ, ◌+◌, ◌<◌, Bool, true, false, cond, ◌&&◌, ◌||◌, Option, Some, None, List, [], ◌∷◌, refl, sym, ap, subst, ◌∙◌, arith}
 use Rattle.std.proofs.lemmas.Bool.{eq-eqb, and_parts, and_from}
 use Rattle.std.proofs.lemmas.Grind.{common_steps}
-use Rattle.std.specs.Prelude.{find, filter, count_by, nat_eq, is_some, if◌then◌else◌, IsTrue}
+use Rattle.std.specs.Prelude.{find, filter, count_by, nat_eq, is_some, if◌then◌else◌}
 use Rattle.std.specs.List.{filter_map, list_any}
 use Rattle.delf_model.specs.declared.rows.EdgeRow.{EdgeRow}
 use Rattle.delf_model.specs.declared.rows.EdgeKey.{EdgeKey}
-use Rattle.delf_model.specs.Graph.{same_key, has_key, put_edge, is_other_edge, edges_rise}
+use Rattle.delf_model.specs.Graph.{same_key, has_key, put_edge, is_other_edge}
 use Rattle.delf_model.specs.Store.{is_counted}
 use Rattle.delf_model.proofs.Graphs.{same_key_is}
 use Rattle.delf_model.proofs.Sums.{count_found}
-use Rattle.edge_index.specs.declared.ends.EndKey.{EndKey}
 use Rattle.edge_index.specs.declared.links.Link.{Link}
-use Rattle.edge_index.specs.Links.{Entry, rows_of, row_in, row_found, link_at, has_room}
-use Rattle.edge_index.specs.Ends.{at_target, is_near, has_near, rows_near, IsOrderOf}
+use Rattle.edge_index.specs.Links.{Entry, rows_of, row_in, row_found, has_room}
+use Rattle.edge_index.specs.Ends.{at_target, is_near, has_near, IsOrderOf}
 use Rattle.edge_index.specs.Refs.{refs_at, refs_of, row_counts, AreRefsOf}
 use Rattle.edge_index.proofs.Keys.{target_is}
 use Rattle.edge_index.proofs.Rises.{count_put, count_take, passes}
@@ -114,7 +113,7 @@ count_under f p (x ∷ xs) under none = go (f x) (p x) refl refl (count_under f 
     go true false fa pb more none = let yes = under x fa in absurd (cc)
     go false false fa pb more none = let zero = more none in grind (arith, common_steps)
 
-pub none_count : (counts : ℕ → Bool) (links : List Entry) (order : List Place) (id : ℕ) → Sorted links → IsOrderOf at_target links order → has_near order id ≡ false →
+pub none_count : {spare : EdgeKey → Bool} (counts : ℕ → Bool) (links : List Entry) (order : List Place) (id : ℕ) → Sorted links → IsOrderOf at_target spare links order → has_near order id ≡ false →
     count_by (is_counted counts id) (rows_of links) ≡ 0
 none_count counts links order id sorted o none =
     count_under (is_counted counts id) (has_end (λ key. key.to) id) (rows_of links) (λ x yes. (and_parts (counts x.key.edge) (nat_eq x.key.to id) yes).1)
@@ -132,8 +131,8 @@ some_count counts links refs key (Some row) are found counted =
     (and_from (counts row.key.edge) (nat_eq row.key.to key.to) counted (eq-eqb row.key.to key.to (ap (λ (k : EdgeKey). k.to) at))))
 
 -- each target of a key with room keeps its place, as long as a key stands there
-pub refs_taken : (counts : ℕ → Bool) (links after : List Entry) (order : List Place) (refs middle new : List (ℕ × ℕ)) →
-    ((q : EdgeKey) → has_room after q ≡ true → has_room links q ≡ true) → IsOrderOf at_target after order →
+pub refs_taken : {spare : EdgeKey → Bool} (counts : ℕ → Bool) (links after : List Entry) (order : List Place) (refs middle new : List (ℕ × ℕ)) →
+    ((q : EdgeKey) → has_room after q ≡ true → has_room links q ≡ true) → IsOrderOf at_target spare after order →
     ((id : ℕ) → refs_of middle id ≡ count_by (is_counted counts id) (rows_of after)) → ((id : ℕ) → is_some (refs_at middle id) ≡ is_some (refs_at refs id)) →
     ((id : ℕ) → refs_of new id ≡ refs_of middle id) → ((id : ℕ) → has_near order id ≡ true → is_some (refs_at new id) ≡ is_some (refs_at middle id)) →
     AreRefsOf counts links refs → AreRefsOf counts after new

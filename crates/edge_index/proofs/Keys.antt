@@ -1,8 +1,7 @@
 -- Keys compared: by a map, by the order of the edges, and at one end.
-use Rattle.std.proofs.Common.{Less, ◌≡◌, ℕ, Bool, true, false, cond, eqb, ltb, refl, sym, ap, ◌∙◌, arith}
+use Rattle.std.proofs.Common.{Less, ◌≡◌, ℕ, true, false, refl, sym, ap, ◌∙◌, arith}
 use Rattle.std.proofs.lemmas.Bool.Decides.{nat_tests}
 use Rattle.std.proofs.lemmas.Grind.{common_steps}
-use Rattle.std.specs.declared.cmp.Ordering.{Ordering}
 use Rattle.std.specs.Ordering.{is_eq}
 use Rattle.delf_model.specs.declared.rows.EdgeKey.{EdgeKey}
 use Rattle.delf_model.specs.Graph.{same_key, key_before}

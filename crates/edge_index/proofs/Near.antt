@@ -1,11 +1,11 @@
 -- The rows that stand at one end, as those of all edges that have it.
-use Rattle.std.proofs.Common.{Less, ◌≡◌, ℕ, Bool, true, false, cond, ◌&&◌, eqb, Option, Some, None, List, [], ◌∷◌, refl, sym, ap, subst, ◌∙◌}
-use Rattle.std.proofs.lemmas.Bool.{and_parts, and_from, eqb-true}
+use Rattle.std.proofs.Common.{Less, ◌≡◌, ℕ, Bool, true, false, cond, ◌&&◌, Option, Some, None, List, [], ◌∷◌, refl, sym, ap, subst, ◌∙◌}
+use Rattle.std.proofs.lemmas.Bool.{and_from, eqb-true}
 use Rattle.std.proofs.lemmas.Map.Keys.{sorted_head, sorted_tail}
 use Rattle.std.specs.Prelude.{find, filter, is_some, nat_eq}
 use Rattle.std.specs.List.{AllByRecursion, filter_map, cons_option}
 use Rattle.std.specs.List.Sorted.{IsStrictlySortedBy}
-use Rattle.std.specs.Map.{lookup, keys_of}
+use Rattle.std.specs.Map.{keys_of}
 use Rattle.std.specs.Ordering.{is_eq}
 use Rattle.delf_model.specs.declared.rows.EdgeRow.{EdgeRow}
 use Rattle.delf_model.specs.declared.rows.EdgeKey.{EdgeKey}
@@ -13,10 +13,10 @@ use Rattle.delf_model.specs.Graph.{same_key, key_before, has_key, keys_rise_afte
 use Rattle.delf_model.proofs.Graphs.{same_key_is, same_key_refl, same_key_sym}
 use Rattle.edge_index.specs.declared.ends.EndKey.{EndKey}
 use Rattle.edge_index.specs.declared.links.Link.{Link}
-use Rattle.edge_index.specs.Links.{Entry, row_of, rows_of, row_found, link_at, row_in, has_room}
-use Rattle.edge_index.specs.Ends.{end_cmp, is_near, has_near, place_of, rows_near, stands_at, IsOrderOf}
+use Rattle.edge_index.specs.Links.{Entry, rows_of, row_found, link_at, row_in}
+use Rattle.edge_index.specs.Ends.{end_cmp, is_near, place_of, rows_near, stands_at, IsOrderOf}
 use Rattle.edge_index.proofs.Keys.{IsEnd}
-use Rattle.edge_index.proofs.Rises.{rise_rest, cond_yes, cond_no, rows_one, rises_filter}
+use Rattle.edge_index.proofs.Rises.{cond_yes, cond_no, rows_one, rises_filter}
 use Rattle.edge_index.proofs.Rows.{Sorted, find_row, rows_rise}
 
 abbrev pub Place : Type 0
@@ -178,8 +178,8 @@ room_of_row key None some = absurd (cc)
 room_of_row key (Some link) some = refl
 
 -- the rows at an end are those of all edges that have it
-pub near_rows : (links : List Entry) (end : EdgeKey → EndKey) (near : EdgeKey → ℕ) → IsEnd end near → (id : ℕ) (order : List Place) →
-    Sorted links → IsOrderOf end links order → rows_near links order id ≡ filter (has_end near id) (rows_of links)
+pub near_rows : {spare : EdgeKey → Bool} (links : List Entry) (end : EdgeKey → EndKey) (near : EdgeKey → ℕ) → IsEnd end near → (id : ℕ) (order : List Place) →
+    Sorted links → IsOrderOf end spare links order → rows_near links order id ≡ filter (has_end near id) (rows_of links)
 near_rows links end near is id order sorted o =
     rows_one (rows_near links order id) (filter (has_end near id) (rows_of links)) (near_rises links end near is id order o.places o.rise)
     (rises_filter (has_end near id) (rows_of links) (rows_rise links sorted))

@@ -15,8 +15,8 @@ use Rattle.edge_index.specs.declared.ends.EndKey.{EndKey}
 use Rattle.edge_index.specs.declared.links.Link.{Link}
 use Rattle.edge_index.specs.Keys.{edge_cmp}
 use Rattle.edge_index.specs.Links.{Entry, link_at, has_room}
-use Rattle.edge_index.specs.Ends.{end_cmp, place_of, stands_at, is_near, has_near, TellsApart, IsOrderOf}
-use Rattle.edge_index.proofs.Keys.{IsEnd, one_place, place_self, edge_equal}
+use Rattle.edge_index.specs.Ends.{end_cmp, place_of, stands_at, is_near, has_near, no_key, TellsApart, IsOrderOf}
+use Rattle.edge_index.proofs.Keys.{IsEnd, one_place, edge_equal}
 use Rattle.edge_index.proofs.Near.{Place}
 
 all_inserted : (end : EdgeKey → EndKey) (place : EndKey) (key : EdgeKey) → place ≡ end key → (order : List Place) → AllByRecursion (stands_at end) order →
@@ -42,26 +42,58 @@ all_removed end test (p ∷ ps) all = go (test p.0) (all_removed end test ps all
 abbrev pub Placed : List Place → List Place → EndKey → Option EdgeKey → Type 0
 Placed old new place found = (q : EndKey) → place_of new q ≡ cond (is_eq (end_cmp place q)) found (place_of old q)
 
-pub order_inserted : (end : EdgeKey → EndKey) (links : List Entry) (old new : List Place) (place : EndKey) (key : EdgeKey) → TellsApart end → end key ≡ place →
-    new ≡ insert_entry end_cmp old place key → IsStrictlySortedBy end_cmp (keys_of new) → Placed old new place (Some key) → IsOrderOf end links old → IsOrderOf end links new
-order_inserted end links old new place key apart at made rise placed o = record {
+or_left : (a b : Bool) → a ≡ true → (a || b) ≡ true
+or_left true b is = refl
+or_left false b is = absurd (cc)
+
+or_right : (a b : Bool) → b ≡ true → (a || b) ≡ true
+or_right true b is = refl
+or_right false b is = is
+
+pub order_inserted : (end : EdgeKey → EndKey) (spare : EdgeKey → Bool) (links : List Entry) (old new : List Place) (place : EndKey) (key : EdgeKey) → TellsApart end → end key ≡ place →
+    spare key ≡ true → new ≡ insert_entry end_cmp old place key → IsStrictlySortedBy end_cmp (keys_of new) → Placed old new place (Some key) →
+    IsOrderOf end spare links old → IsOrderOf end spare links new
+order_inserted end spare links old new place key apart at may made rise placed o = record {
   rise = rise;
   places = subst (λ (order : List Place). AllByRecursion (stands_at end) order) (sym made) (all_inserted end place key (sym at) old o.places);
   whole = λ other room. placed (end other) ∙ go other (o.whole other room) (is_eq (end_cmp place (end other))) refl;
+  only = λ q k there. from q k (is_eq (end_cmp place q)) (sym (placed q) ∙ there);
 }
   where
     go : (other : EdgeKey) → place_of old (end other) ≡ Some other → (b : Bool) → is_eq (end_cmp place (end other)) ≡ b → cond b (Some key) (place_of old (end other)) ≡ Some other
     go other was true is = ap (λ (k : EdgeKey). Some k) (apart key other (at ∙ one_place place (end other) is))
     go other was false is = was
 
--- the same, as a table of links has more or fewer keys
+    from : (q : EndKey) (k : EdgeKey) (b : Bool) → cond b (Some key) (place_of old q) ≡ Some k → (has_room links k || spare k) ≡ true
+    from q k true there = let same : key ≡ k = cc in subst (λ (e : EdgeKey). (has_room links e || spare e) ≡ true) same (or_right (has_room links key) (spare key) may)
+    from q k false there = o.only q k there
+
+-- any order may have a key to spare
+pub order_wider : (end : EdgeKey → EndKey) (spare : EdgeKey → Bool) (links : List Entry) (order : List Place) → IsOrderOf end no_key links order → IsOrderOf end spare links order
+order_wider end spare links order o = record {
+  rise = o.rise;
+  places = o.places;
+  whole = o.whole;
+  only = λ q k there. or_left (has_room links k) (spare k) (none (has_room links k) (o.only q k there));
+}
+  where
+    none : (b : Bool) → (b || false) ≡ true → b ≡ true
+    none true is = refl
+    none false is = is
+
+-- the same order, where a table of links has room for the same keys
 pub order_kept : (end : EdgeKey → EndKey) (before after : List Entry) (order : List Place) → ((key : EdgeKey) → has_room after key ≡ true → has_room before key ≡ true) →
-    IsOrderOf end before order → IsOrderOf end after order
-order_kept end before after order less o = record {
+    ((key : EdgeKey) → has_room before key ≡ true → has_room after key ≡ true) → IsOrderOf end no_key before order → IsOrderOf end no_key after order
+order_kept end before after order less more o = record {
   rise = o.rise;
   places = o.places;
   whole = λ key room. o.whole key (less key room);
+  only = λ q k there. or_left (has_room after k) false (more k (none (has_room before k) (o.only q k there)));
 }
+  where
+    none : (b : Bool) → (b || false) ≡ true → b ≡ true
+    none true is = refl
+    none false is = is
 
 -- what a table of links has after one key is written or taken out
 abbrev pub Linked : List Entry → List Entry → EdgeKey → Option (Option Link) → Type 0
@@ -95,11 +127,12 @@ no_link links key none = go (link_at links key) none
 
 -- an order that has a new key already serves the table with it
 pub order_grown : (end : EdgeKey → EndKey) (old new : List Entry) (order : List Place) (key : EdgeKey) (link : Option Link) → Linked old new key (Some link) →
-    place_of order (end key) ≡ Some key → IsOrderOf end old order → IsOrderOf end new order
+    place_of order (end key) ≡ Some key → IsOrderOf end (same_key key) old order → IsOrderOf end no_key new order
 order_grown end old new order key link linked there o = record {
   rise = o.rise;
   places = o.places;
   whole = λ q room. go q (is_eq (edge_cmp key q)) (sym (edge_equal key q)) (o.whole q) (sym (ap (λ (found : Option (Option Link)). is_some found) (linked q)) ∙ room);
+  only = λ q k at. or_left (has_room new k) false (grown k (has_room old k) (same_key key k) refl refl (o.only q k at));
 }
   where
     go : (q : EdgeKey) (b : Bool) → same_key key q ≡ b → (has_room old q ≡ true → place_of order (end q) ≡ Some q) →
@@ -107,7 +140,12 @@ order_grown end old new order key link linked there o = record {
     go q true is was room = subst (λ (k : EdgeKey). place_of order (end k) ≡ Some k) (same_key_is key q is) there
     go q false is was room = was room
 
-taken_room : (old new : List Entry) (key : EdgeKey) → Linked old new key None → (q : EdgeKey) → has_room new q ≡ true → (same_key key q ≡ false) × (has_room old q ≡ true)
+    grown : (k : EdgeKey) (a b : Bool) → has_room old k ≡ a → same_key key k ≡ b → (a || b) ≡ true → has_room new k ≡ true
+    grown k true b was is any = room_grown old new key link linked k was
+    grown k false true was is any = subst (λ (e : EdgeKey). has_room new e ≡ true) (same_key_is key k is) (room_made old new key link linked)
+    grown k false false was is any = absurd (cc)
+
+pub taken_room : (old new : List Entry) (key : EdgeKey) → Linked old new key None → (q : EdgeKey) → has_room new q ≡ true → (same_key key q ≡ false) × (has_room old q ≡ true)
 taken_room old new key linked q room =
     go (is_eq (edge_cmp key q)) (sym (edge_equal key q)) (sym (ap (λ (found : Option (Option Link)). is_some found) (linked q)) ∙ room)
   where
@@ -118,28 +156,57 @@ taken_room old new key linked q room =
 pub room_taken : (old new : List Entry) (key : EdgeKey) → Linked old new key None → (q : EdgeKey) → has_room new q ≡ true → has_room old q ≡ true
 room_taken old new key linked q room = (taken_room old new key linked q room).1
 
--- a key taken out of the table and of its order
-order_taken : (end : EdgeKey → EndKey) (near : EdgeKey → ℕ) → IsEnd end near → (old new : List Entry) (order after : List Place) (key : EdgeKey) → Linked old new key None →
-    after ≡ remove_entry (is_at (end_cmp (end key))) order → IsStrictlySortedBy end_cmp (keys_of after) → Placed order after (end key) None →
-    IsOrderOf end old order → IsOrderOf end new after
-order_taken end near is old new order after key linked made rise placed o = record {
+pub room_left : (old new : List Entry) (key : EdgeKey) → Linked old new key None → (q : EdgeKey) → same_key key q ≡ false → has_room old q ≡ true → has_room new q ≡ true
+room_left old new key linked q apart room =
+    ap (λ (found : Option (Option Link)). is_some found) (linked q)
+    ∙ (ap (λ (b : Bool). is_some (cond b None (link_at old q))) (edge_equal key q ∙ apart) ∙ room)
+
+pub free_apart : (links : List Entry) (key : EdgeKey) → has_room links key ≡ false → (q : EdgeKey) → has_room links q ≡ true → (same_key key q ≡ false) × (has_room links q ≡ true)
+free_apart links key free q room = (go (same_key key q) refl, room)
+  where
+    go : (b : Bool) → same_key key q ≡ b → b ≡ false
+    go true is = let same = ap (has_room links) (same_key_is key q is) in absurd (cc)
+    go false is = refl
+
+-- a key stands at its place alone
+stands_there : (end : EdgeKey → EndKey) (order : List Place) → AllByRecursion (stands_at end) order → (q : EndKey) (key : EdgeKey) → place_of order q ≡ Some key → q ≡ end key
+stands_there end [] places q key there = absurd (cc)
+stands_there end (p ∷ ps) places q key there = go (is_eq (end_cmp q p.0)) refl (stands_there end ps places.1 q key) there
+  where
+    go : (b : Bool) → is_eq (end_cmp q p.0) ≡ b → (place_of ps q ≡ Some key → q ≡ end key) → cond b (Some p.1) (place_of ps q) ≡ Some key → q ≡ end key
+    go true is more there = let same : p.1 ≡ key = cc in one_place q p.0 is ∙ (places.0 ∙ ap end same)
+    go false is more there = more there
+
+-- a key taken out of its order, which no longer has room
+pub order_taken : (end : EdgeKey → EndKey) (near : EdgeKey → ℕ) → IsEnd end near → (old new : List Entry) (order after : List Place) (key : EdgeKey) (place : EndKey) → place ≡ end key →
+    ((q : EdgeKey) → has_room new q ≡ true → (same_key key q ≡ false) × (has_room old q ≡ true)) →
+    ((q : EdgeKey) → same_key key q ≡ false → has_room old q ≡ true → has_room new q ≡ true) →
+    after ≡ remove_entry (is_at (end_cmp place)) order → IsStrictlySortedBy end_cmp (keys_of after) → Placed order after place None →
+    IsOrderOf end (same_key key) old order → IsOrderOf end no_key new after
+order_taken end near is old new order after key place at gone left made rise placed o = record {
   rise = rise;
-  places = subst (λ (ps : List Place). AllByRecursion (stands_at end) ps) (sym made) (all_removed end (is_at (end_cmp (end key))) order o.places);
-  whole = λ q room. let parts = taken_room old new key linked q room in
-      placed (end q) ∙ (ap (λ (b : Bool). cond b None (place_of order (end q))) (is.one key q ∙ parts.0) ∙ o.whole q parts.1);
+  places = subst (λ (ps : List Place). AllByRecursion (stands_at end) ps) (sym made) (all_removed end (is_at (end_cmp place)) order o.places);
+  whole = λ q room. let parts = gone q room in
+      placed (end q) ∙ (ap (λ (b : Bool). cond b None (place_of order (end q))) (ap (λ (p : EndKey). is_eq (end_cmp p (end q))) at ∙ (is.one key q ∙ parts.0)) ∙ o.whole q parts.1);
+  only = λ q k there. or_left (has_room new k) false (from q k (is_eq (end_cmp place q)) refl (sym (placed q) ∙ there));
 }
+  where
+    apart : (q : EndKey) (k : EdgeKey) → is_eq (end_cmp place q) ≡ false → q ≡ end k → (b : Bool) → same_key key k ≡ b → b ≡ false
+    apart q k other there true same =
+        let here : is_eq (end_cmp place q) ≡ true =
+        ap (λ (p : EndKey). is_eq (end_cmp p q)) at ∙ (ap (λ (p : EndKey). is_eq (end_cmp (end key) p)) there ∙ (is.one key k ∙ same)) in
+        absurd (cc)
+    apart q k other there false same = refl
 
-or_right : (a b : Bool) → b ≡ true → (a || b) ≡ true
-or_right true b is = refl
-or_right false b is = is
+    was : (k : EdgeKey) (a b : Bool) → has_room old k ≡ a → same_key key k ≡ b → b ≡ false → (a || b) ≡ true → has_room new k ≡ true
+    was k true b room same other any = left k (same ∙ other) room
+    was k false true room same other any = absurd (cc)
+    was k false false room same other any = absurd (cc)
 
--- the same, where the place comes by another name
-pub end_taken : (end : EdgeKey → EndKey) (near : EdgeKey → ℕ) → IsEnd end near → (old new : List Entry) (order after : List Place) (key : EdgeKey) (place : EndKey) → place ≡ end key →
-    Linked old new key None → after ≡ remove_entry (is_at (end_cmp place)) order → IsStrictlySortedBy end_cmp (keys_of after) → Placed order after place None →
-    IsOrderOf end old order → IsOrderOf end new after
-end_taken end near is old new order after key place at linked made rise placed o =
-    order_taken end near is old new order after key linked (subst (λ (q : EndKey). after ≡ remove_entry (is_at (end_cmp q)) order) at made) rise
-    (subst (λ (q : EndKey). Placed order after q None) at placed) o
+    from : (q : EndKey) (k : EdgeKey) (b : Bool) → is_eq (end_cmp place q) ≡ b → cond b None (place_of order q) ≡ Some k → has_room new k ≡ true
+    from q k true hit there = absurd (cc)
+    from q k false hit there =
+        was k (has_room old k) (same_key key k) refl refl (apart q k hit (stands_there end order o.places q k there) (same_key key k) refl) (o.only q k there)
 
 -- a key that has its place stands at that end
 pub near_from_place : (order : List Place) (place : EndKey) (key : EdgeKey) → place_of order place ≡ Some key → has_near order place.near ≡ true

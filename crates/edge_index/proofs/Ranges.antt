@@ -1,16 +1,15 @@
 -- The part of an order that one end has.
-use Rattle.std.proofs.Common.{◌≡◌, ℕ, ◌+◌, Bool, true, false, cond, ◌||◌, ◌∷◌, [], List, refl, ap, sym, ◌∙◌, arith, map, Some, None, Option}
+use Rattle.std.proofs.Common.{◌≡◌, ℕ, ◌+◌, Bool, true, false, cond, ◌||◌, ◌∷◌, [], List, refl, ap, sym, ◌∙◌, arith, Some, None, Option}
 use Rattle.std.proofs.lemmas.Bool.Decides.{nat_tests}
 use Rattle.std.proofs.lemmas.Grind.{common_steps}
 use Rattle.std.specs.Prelude.{filter, nat_eq, is_some}
 use Rattle.std.specs.List.{list_any}
 use Rattle.std.specs.Map.Iter.{TakesFirst}
-
 use Rattle.std.specs.declared.ops.Bound.TheVariants.{Included, Excluded}
 use Rattle.std.specs.BTreeMap.Range.{range_contains, entries_between}
 use Rattle.delf_model.specs.declared.rows.EdgeKey.{EdgeKey}
 use Rattle.edge_index.specs.declared.ends.EndKey.{EndKey}
-use Rattle.edge_index.specs.Ends.{end_cmp, is_near, has_near}
+use Rattle.edge_index.specs.Ends.{end_cmp, is_near}
 
 abbrev pub start_of : ℕ → EndKey
 start_of near = record { near = near; edge = 0; far = 0 }

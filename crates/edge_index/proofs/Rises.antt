@@ -1,9 +1,8 @@
 -- Rows by rising key: what finds a row, and when two such lists are one.
-use Rattle.std.proofs.Common.{◌≡◌, ℕ, suc, ◌+◌, ◌≤◌, Bool, true, false, cond, not, ◌&&◌, Option, Some, None, List, [], ◌∷◌, length, refl, sym, ap, subst, ◌∙◌, arith}
-use Rattle.std.proofs.lemmas.Bool.{and_parts, and_from, false≢true}
-use Rattle.std.proofs.lemmas.Bool.Decides.{nat_tests}
+use Rattle.std.proofs.Common.{◌≡◌, ◌+◌, ◌≤◌, Bool, true, false, cond, not, Option, Some, None, List, [], ◌∷◌, length, refl, sym, ap, subst, ◌∙◌, arith}
+use Rattle.std.proofs.lemmas.Bool.{and_parts, and_from}
 use Rattle.std.proofs.lemmas.Grind.{common_steps}
-use Rattle.std.specs.Prelude.{find, filter, count_by, nat_eq, is_some, if◌then◌else◌}
+use Rattle.std.specs.Prelude.{find, filter, count_by, if◌then◌else◌}
 use Rattle.delf_model.specs.declared.rows.EdgeRow.{EdgeRow}
 use Rattle.delf_model.specs.declared.rows.EdgeKey.{EdgeKey}
 use Rattle.delf_model.specs.Graph.{same_key, key_before, has_key, put_edge, is_other_edge, keys_rise_after, edges_rise}
@@ -86,8 +85,8 @@ rows_one (x ∷ xs) (y ∷ ys) h k same =
         let found : find (has_key x.key) (y ∷ ys) ≡ Some y = subst (λ (q : EdgeKey). find (has_key q) (y ∷ ys) ≡ Some y) (sym keys) (find_first y ys) in
         let heads : x ≡ y = cc (find_first x xs, same x.key, found) in
         let rest : xs ≡ ys = more
-            (λ key. tail_case key x xs ys (same_key x.key key) refl h (subst (λ (q : EdgeKey). keys_rise_after q ys ≡ true) (sym keys) k)
-            (same key ∙ ap (λ (r : EdgeRow). find (has_key key) (r ∷ ys)) (sym heads))) in
+        (λ key. tail_case key x xs ys (same_key x.key key) refl h (subst (λ (q : EdgeKey). keys_rise_after q ys ≡ true) (sym keys) k)
+        (same key ∙ ap (λ (r : EdgeRow). find (has_key key) (r ∷ ys)) (sym heads))) in
         cc
 
 -- counts and lengths of the rows after one comes or goes

@@ -1,11 +1,11 @@
 -- The rows that a table of links makes, and what becomes of them as the table changes.
-use Rattle.std.proofs.Common.{Less, Equal, Greater, ◌≡◌, ℕ, Bool, true, false, cond, not, ◌||◌, Option, Some, None, List, [], ◌∷◌, refl, sym, ap, subst, ◌∙◌}
-use Rattle.std.proofs.lemmas.Bool.{and_parts, and_from}
+use Rattle.std.proofs.Common.{Less, Equal, Greater, ◌≡◌, Bool, true, false, cond, not, ◌||◌, Option, Some, None, List, [], ◌∷◌, refl, sym, ap, subst, ◌∙◌}
+use Rattle.std.proofs.lemmas.Bool.{and_from}
 use Rattle.std.proofs.lemmas.Map.Keys.{sorted_head, sorted_tail}
 use Rattle.std.specs.Prelude.{find, filter, is_some}
 use Rattle.std.specs.List.{AllByRecursion, list_any, cons_option}
 use Rattle.std.specs.List.Sorted.{IsStrictlySortedBy}
-use Rattle.std.specs.Map.{lookup, keys_of, set_value, remove_entry}
+use Rattle.std.specs.Map.{keys_of, set_value, remove_entry}
 use Rattle.std.specs.BTreeMap.{is_at, insert_entry}
 use Rattle.std.specs.declared.cmp.Ordering.{Ordering}
 use Rattle.std.specs.Ordering.{is_eq, match_ordering}
@@ -15,9 +15,9 @@ use Rattle.delf_model.specs.Graph.{same_key, key_before, has_key, put_edge, is_o
 use Rattle.delf_model.proofs.Graphs.{same_key_is, same_key_refl, same_key_sym}
 use Rattle.edge_index.specs.declared.links.Link.{Link}
 use Rattle.edge_index.specs.Keys.{edge_cmp}
-use Rattle.edge_index.specs.Links.{Entry, row_of, row_of_entry, link_of, rows_of, row_found, link_at, row_in, has_room}
-use Rattle.edge_index.proofs.Keys.{edge_equal, edge_less, before_less}
-use Rattle.edge_index.proofs.Rises.{rise_rest, find_above, put_first, put_later, filter_above, cond_yes, cond_no}
+use Rattle.edge_index.specs.Links.{Entry, row_of, link_of, rows_of, row_found, link_at, row_in, has_room}
+use Rattle.edge_index.proofs.Keys.{edge_equal, edge_less}
+use Rattle.edge_index.proofs.Rises.{find_above, put_first, put_later, filter_above, cond_yes, cond_no}
 
 abbrev pub Sorted : List Entry → Type 0
 Sorted es = IsStrictlySortedBy edge_cmp (keys_of es)

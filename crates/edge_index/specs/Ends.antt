@@ -1,5 +1,5 @@
 -- The edges of one end: where each stands, and which rows they are.
-use Rattle.std.specs.Prelude.{◌≡◌, ℕ, Bool, true, nat_eq, List, Option, Some, filter}
+use Rattle.std.specs.Prelude.{◌≡◌, ℕ, Bool, true, false, ◌||◌, nat_eq, List, Option, Some, filter}
 use Rattle.std.specs.List.{filter_map, list_any, AllByRecursion}
 use Rattle.std.specs.List.Sorted.{IsStrictlySortedBy}
 use Rattle.std.specs.Map.{lookup, keys_of}
@@ -43,8 +43,12 @@ stands_at end place = place.0 ≡ end place.1
 abbrev pub TellsApart : (EdgeKey → EndKey) → Type 0
 TellsApart end = (a b : EdgeKey) → end a ≡ end b → a ≡ b
 
--- an order has each key for which there is room, at its place
-pub record IsOrderOf (end : EdgeKey → EndKey) (links : List Entry) (order : List (EndKey × EdgeKey)) : Type 0 where
+abbrev pub no_key : EdgeKey → Bool
+no_key key = false
+
+-- an order has each key for which there is room at its place, and no other but these spare ones
+pub record IsOrderOf (end : EdgeKey → EndKey) (spare : EdgeKey → Bool) (links : List Entry) (order : List (EndKey × EdgeKey)) : Type 0 where
   pub rise : IsStrictlySortedBy end_cmp (keys_of order)
   pub places : AllByRecursion (stands_at end) order
   pub whole : (key : EdgeKey) → has_room links key ≡ true → place_of order (end key) ≡ Some key
+  pub only : (place : EndKey) (key : EdgeKey) → place_of order place ≡ Some key → (has_room links key || spare key) ≡ true

@@ -2,12 +2,13 @@
 use Rattle.std.specs.Prelude.{ℕ, Bool, ◌<◌, ◌^◌, List, length, slice_get}
 use Rattle.std.specs.List.Sorted.{IsStrictlySortedBy}
 use Rattle.std.specs.Map.{keys_of}
+use Rattle.delf_model.specs.declared.rows.EdgeKey.{EdgeKey}
 use Rattle.delf_model.specs.declared.rows.EdgeRow.{EdgeRow}
 use Rattle.delf_model.specs.RuleSet.{is_refcount_shape}
 use Rattle.edge_index.specs.declared.tables.Tables.{Tables}
 use Rattle.edge_index.specs.Keys.{edge_cmp}
 use Rattle.edge_index.specs.Links.{rows_of}
-use Rattle.edge_index.specs.Ends.{IsOrderOf, at_source, at_target}
+use Rattle.edge_index.specs.Ends.{IsOrderOf, at_source, at_target, no_key}
 use Rattle.edge_index.specs.Refs.{AreRefsOf}
 
 -- the edges of the tables, by rising key
@@ -18,9 +19,13 @@ rows tables = rows_of tables.links.entries
 abbrev pub counts : Tables → ℕ → Bool
 counts tables = λ edge. is_refcount_shape (slice_get tables.shapes.items edge)
 
-pub record Agree (tables : Tables) : Type 0 where
+-- the tables agree, but that the orders may have these spare keys
+pub record AgreeBut (spare : EdgeKey → Bool) (tables : Tables) : Type 0 where
   pub rise : IsStrictlySortedBy edge_cmp (keys_of tables.links.entries)
   pub few : length (rows tables) < 2 ^ 32
-  pub out : IsOrderOf at_source tables.links.entries tables.outward.entries
-  pub into : IsOrderOf at_target tables.links.entries tables.inward.entries
+  pub out : IsOrderOf at_source spare tables.links.entries tables.outward.entries
+  pub into : IsOrderOf at_target spare tables.links.entries tables.inward.entries
   pub refs : AreRefsOf (counts tables) tables.links.entries tables.refs.entries
+
+abbrev pub Agree : Tables → Type 0
+Agree tables = AgreeBut no_key tables

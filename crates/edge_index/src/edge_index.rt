@@ -92,6 +92,8 @@ impl EdgeIndex {
         ensures counts { counts_of self.new ≡ counts_of self.old }
         ensures ready { OnOk result (IsTrue (is_ready self.new key)) }
         ensures stay { (other : EdgeKey) → IsTrue (is_ready self.old other) → IsTrue (is_ready self.new other) }
+        ensures order { IsTrue (edges_rise self.new.edges) }
+        ensures few { length self.new.edges < 2 ^ 32 }
     {
         self.tables.ready(key)
     }

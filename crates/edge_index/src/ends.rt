@@ -1,5 +1,5 @@
 //! The edges of one end, in the order in which that end's edges are asked for.
-ghost use Rattle.std.specs.Prelude.{◌≡◌, Some, List, OnOk, filter, slice_get};
+ghost use Rattle.std.specs.Prelude.{◌≡◌, Bool, true, Some, List, OnOk, filter, slice_get};
 ghost use Rattle.std.specs.Map.Iter.{ShowsInOrder, deref_pair};
 ghost use Rattle.delf_model.specs.declared.rows.EdgeKey.{EdgeKey};
 ghost use Rattle.edge_index.specs.declared.ends.EndKey.{EndKey};
@@ -84,7 +84,7 @@ pub fn has_end(order: &EndOrder, id: ObjectId) -> bool
 /// Puts a key at its place in an order. The only error is want of memory.
 pub fn add_place(order: &mut EndOrder, place: EndKey, key: EdgeKey) -> Result<(), AllocError>
     ensures there { OnOk result (place_of order.new.entries place ≡ Some key) }
-    ensures keeps { (end : EdgeKey → EndKey) → (links : List Entry) → TellsApart end → end key ≡ place → IsOrderOf end links order.old.entries → IsOrderOf end links order.new.entries }
+    ensures keeps { (end : EdgeKey → EndKey) → (spare : EdgeKey → Bool) → (links : List Entry) → TellsApart end → end key ≡ place → spare key ≡ true → IsOrderOf end spare links order.old.entries → IsOrderOf end spare links order.new.entries }
 {
     order.insert(place, key)?;
     Ok(())

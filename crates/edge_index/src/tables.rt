@@ -1,7 +1,7 @@
 //! The tables of an index: the links, their orders by source and by target, and the counts by target.
-ghost use Rattle.std.specs.Prelude.{◌≡◌, ◌<◌, true, [], OnOk, IfOk, None, length, find, filter};
+ghost use Rattle.std.specs.Prelude.{◌≡◌, ◌<◌, true, false, [], OnOk, OnErr, IfOk, None, length, find, filter};
 ghost use Rattle.delf_model.specs.declared.rows.EdgeKey.{EdgeKey};
-ghost use Rattle.delf_model.specs.Graph.{has_key, put_edge, is_other_edge};
+ghost use Rattle.delf_model.specs.Graph.{same_key, has_key, put_edge, is_other_edge};
 ghost use Rattle.edge_index.specs.Links.{has_room};
 
 use crate::ends::{EndOrder, add_place, source_end, target_end};
@@ -19,7 +19,7 @@ pub struct Tables {
     pub shapes: Vec<EdgeShape>,
     /// What stands at each key for which there is room.
     pub links: Links,
-    /// The same keys, and maybe more, by source.
+    /// The same keys by source.
     pub outward: EndOrder,
     /// The same by target.
     pub inward: EndOrder,
@@ -28,7 +28,7 @@ pub struct Tables {
 }
 
 impl Tables {
-    ghost use Rattle.edge_index.specs.Tables.{Agree, rows};
+    ghost use Rattle.edge_index.specs.Tables.{Agree, AgreeBut, rows};
 
     /// No keys, for the edge types of these rules. The only error is want of memory.
     pub fn empty(alloc: Global, rules: &Rules) -> Result<Tables, AllocError>
@@ -57,6 +57,26 @@ impl Tables {
         if self.links.contains_key(&key) {
             return Ok(());
         }
+        if let Err(error) = self.add_places(key) {
+            self.outward.remove(&source_end(&key));
+            self.inward.remove(&target_end(&key));
+            return Err(error);
+        }
+        Ok(())
+    }
+
+    // The same for a key that has no room; without memory the orders may keep it.
+    fn add_places(&mut self, key: EdgeKey) -> Result<(), AllocError>
+        requires agree { Agree self.old }
+        requires free { has_room self.old.links.entries key ≡ false }
+        ensures agree { OnOk result (Agree self.new) }
+        ensures part { OnErr result (AgreeBut (same_key key) self.new) }
+        ensures links { OnErr result (self.new.links.entries ≡ self.old.links.entries) }
+        ensures rows { rows self.new ≡ rows self.old }
+        ensures shapes { self.new.shapes.items ≡ self.old.shapes.items }
+        ensures ready { OnOk result (has_room self.new.links.entries key ≡ true) }
+        ensures stay { (other : EdgeKey) → has_room self.old.links.entries other ≡ true → has_room self.new.links.entries other ≡ true }
+    {
         add_place(&mut self.outward, source_end(&key), key)?;
         add_place(&mut self.inward, target_end(&key), key)?;
         ready_ref(&mut self.refs, key.to)?;

@@ -1,4 +1,4 @@
-use Rattle.std.proofs.Common.{◌∙◌, rules, subst, List}
+use Rattle.std.proofs.Common.{◌∙◌, subst, List}
 use Rattle.std.specs.Map.Iter.{TakesFirst, deref_pair}
 use Rattle.delf_model.specs.declared.rows.EdgeKey.{EdgeKey}
 use Rattle.edge_index.specs.declared.ends.EndKey.{EndKey}

@@ -1,9 +1,8 @@
-use Rattle.std.proofs.Common.{◌≡◌, ◌∙◌, rules, sym, ap, subst, ℕ, ◌+◌, List}
+use Rattle.std.proofs.Common.{◌≡◌, ◌∙◌, rules, ap, ℕ, ◌+◌}
 use Rattle.std.specs.declared.ops.Bound.TheVariants.{Included, Excluded}
 use Rattle.std.specs.BTreeMap.Range.{entries_between}
-use Rattle.delf_model.specs.declared.rows.EdgeKey.{EdgeKey}
 use Rattle.edge_index.specs.declared.ends.EndKey.{EndKey}
-use Rattle.edge_index.specs.Ends.{end_cmp, is_near}
+use Rattle.edge_index.specs.Ends.{end_cmp}
 use Rattle.edge_index.proofs.Ranges.{start_of, between_is_near}
 use Rattle.edge_index.proofs.ends.places_near.Goals as goal
 

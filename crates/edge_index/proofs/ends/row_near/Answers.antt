@@ -1,7 +1,6 @@
 use Rattle.std.proofs.Common.{◌∙◌, rules, sym, tests}
 use Rattle.std.proofs.lemmas.Iterator.Adapters.{option_map_id}
 use Rattle.std.proofs.lemmas.Iterator.Consumers.{nth_from_yields_List, YieldsList-from_filter_map, YieldsList-from_rest, YieldsList-at}
-use Rattle.std.specs.Map.Iter.{deref_pair}
 use Rattle.std.specs.Prelude.{filter}
 use Rattle.delf_model.specs.declared.rows.EdgeKey.{EdgeKey}
 use Rattle.edge_index.specs.declared.ends.EndKey.{EndKey}

@@ -1,4 +1,4 @@
-use Rattle.std.proofs.Common.{rules, ◌+◌, ◌-◌}
+use Rattle.std.proofs.Common.{rules, ◌-◌}
 use Rattle.edge_index.proofs.Counts.{places_stay}
 use Rattle.edge_index.proofs.refs.drop_ref.Goals as goal
 

@@ -1,4 +1,4 @@
-use Rattle.std.proofs.Common.{rules, refl, sym, ◌∙◌, Some}
+use Rattle.std.proofs.Common.{refl, sym, ◌∙◌, Some}
 use Rattle.edge_index.proofs.Counts.{counts_stay, none_counts_none, places_grow}
 use Rattle.edge_index.proofs.refs.ready_ref.Goals as goal
 

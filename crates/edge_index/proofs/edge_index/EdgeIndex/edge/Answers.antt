@@ -1,7 +1,4 @@
-use Rattle.std.proofs.Common.{◌≡◌, ◌∙◌, sym, ap, subst, Option, List}
-use Rattle.std.specs.Prelude.{find}
-use Rattle.delf_model.specs.declared.rows.EdgeRow.{EdgeRow}
-use Rattle.delf_model.specs.Graph.{has_key}
+use Rattle.std.proofs.Common.{◌∙◌, sym}
 use Rattle.edge_index.proofs.Rows.{find_row}
 use Rattle.edge_index.proofs.edge_index.EdgeIndex.edge.Goals as goal
 

@@ -1,6 +1,5 @@
 use Rattle.std.proofs.Common.{rules, tests}
 use Rattle.std.proofs.lemmas.Iterator.Consumers.{YieldsList-from_filter_map, YieldsList-from_rest, YieldsList-at}
-use Rattle.std.specs.Map.Iter.{deref_pair}
 use Rattle.std.proofs.lemmas.Iterator.{items_from_collect}
 use Rattle.edge_index.specs.Links.{row_of_entry}
 use Rattle.edge_index.proofs.edge_index.EdgeIndex.edges.Goals as goal

@@ -1,4 +1,4 @@
-use Rattle.std.proofs.Common.{◌≡◌, ◌<◌, ℕ, rules, sym, ap, subst, ◌∙◌, List, length, Some, Option, arith}
+use Rattle.std.proofs.Common.{◌≡◌, ◌<◌, sym, ap, subst, ◌∙◌, List, length, Some, arith}
 use Rattle.std.proofs.lemmas.Map.{keys-set_value}
 use Rattle.std.specs.List.{slice_get}
 use Rattle.std.specs.List.Sorted.{IsStrictlySortedBy}
@@ -37,12 +37,13 @@ returns-clause-rows c = rows_after c
 pub returns-clause-agree : goal.returns-clause-agree
 returns-clause-agree c =
     let less = room_same c.args.self.now.links.entries c.put_link.new.links.entries (keys_after c) in
+    let more = room_same c.put_link.new.links.entries c.args.self.now.links.entries (sym (keys_after c)) in
     record {
       rise = subst (λ (keys : List EdgeKey). IsStrictlySortedBy edge_cmp keys) (sym (keys_after c)) c.requires.agree.rise;
       few = subst (λ (rs : List EdgeRow). length rs < 4294967296) (sym (rows_after c))
           (let one = length_put c.args.row.now (rows_of c.args.self.now.links.entries) in let room = c.requires.room in omega arith);
-      out = order_kept at_source c.args.self.now.links.entries c.put_link.new.links.entries c.args.self.now.outward.entries less c.requires.agree.out;
-      into = order_kept at_target c.args.self.now.links.entries c.put_link.new.links.entries c.args.self.now.inward.entries less c.requires.agree.into;
+      out = order_kept at_source c.args.self.now.links.entries c.put_link.new.links.entries c.args.self.now.outward.entries less more c.requires.agree.out;
+      into = order_kept at_target c.args.self.now.links.entries c.put_link.new.links.entries c.args.self.now.inward.entries less more c.requires.agree.into;
       refs = refs_put (counts c.args.self.now) c.args.row.now c.args.self.now.links.entries c.put_link.new.links.entries c.args.self.now.refs.entries
           c.count_up.new.refs.entries c.is_counting-counts.result
           (c.is_counting-counts.ensures ∙ ap (λ (shapes : List EdgeShape). is_refcount_shape (slice_get shapes c.args.row.now.key.edge)) c.deref.ensures.value)

@@ -1,20 +1,18 @@
-use Rattle.std.proofs.Common.{◌≡◌, ◌<◌, ℕ, Bool, rules, sym, ap, subst, ◌∙◌, List, length, arith}
-use Rattle.std.specs.Prelude.{find, filter, count_by}
+use Rattle.std.proofs.Common.{◌≡◌, ◌<◌, sym, ap, subst, ◌∙◌, List, length, arith}
+use Rattle.std.specs.Prelude.{filter}
 use Rattle.std.specs.List.{slice_get}
 use Rattle.delf_model.specs.declared.rows.EdgeRow.{EdgeRow}
 use Rattle.delf_model.specs.declared.schema.EdgeShape.{EdgeShape}
-use Rattle.delf_model.specs.Graph.{has_key, is_other_edge}
-use Rattle.delf_model.specs.Store.{is_counted}
+use Rattle.delf_model.specs.Graph.{same_key, is_other_edge}
 use Rattle.delf_model.specs.RuleSet.{is_refcount_shape}
-use Rattle.edge_index.specs.declared.ends.EndKey.{EndKey}
 use Rattle.edge_index.specs.Links.{rows_of}
-use Rattle.edge_index.specs.Ends.{at_source, at_target, IsOrderOf}
-use Rattle.edge_index.specs.Refs.{refs_of, row_counts}
+use Rattle.edge_index.specs.Ends.{at_source, at_target}
+use Rattle.edge_index.specs.Refs.{row_counts}
 use Rattle.edge_index.specs.Tables.{counts}
 use Rattle.edge_index.proofs.Keys.{source_is, target_is}
 use Rattle.edge_index.proofs.Rises.{length_filter}
 use Rattle.edge_index.proofs.Rows.{rows_take, find_row}
-use Rattle.edge_index.proofs.Orders.{room_taken, end_taken}
+use Rattle.edge_index.proofs.Orders.{room_taken, taken_room, room_left, order_taken, order_wider}
 use Rattle.edge_index.proofs.Changes.{exact_taken, none_count, some_count, refs_taken}
 use Rattle.edge_index.proofs.tables.Tables.take.Goals as goal
 
@@ -29,13 +27,15 @@ pub forget-requires : goal.forget-requires
 forget-requires c = λ none.
     let rows = ap rows_of c.remove.ensures.entries ∙ rows_take c.args.key.now c.args.self.now.links.entries c.requires.rise in
     let flag = c.is_row_counting-counts.ensures
-        ∙ (ap (λ (shapes : List EdgeShape). row_counts (λ edge. is_refcount_shape (slice_get shapes edge)) c.row_at-row.result) c.deref.ensures.value
-        ∙ ap (row_counts (counts c.args.self.now)) (c.row_at-row.ensures ∙ sym (find_row c.args.self.now.links.entries c.args.key.now c.requires.rise))) in
+    ∙ (ap (λ (shapes : List EdgeShape). row_counts (λ edge. is_refcount_shape (slice_get shapes edge)) c.row_at-row.result) c.deref.ensures.value
+    ∙ ap (row_counts (counts c.args.self.now)) (c.row_at-row.ensures ∙ sym (find_row c.args.self.now.links.entries c.args.key.now c.requires.rise))) in
     exact_taken (counts c.args.self.now) c.args.key.now c.args.self.now.links.entries c.remove.new.self.entries c.args.self.now.refs.entries c.count_down.new.refs.entries
     c.is_row_counting-counts.result flag c.requires.rise rows c.count_down.ensures.count c.requires.refs c.args.key.now.to
     ∙ none_count (counts c.args.self.now) c.remove.new.self.entries c.remove-3.new.self.entries c.args.key.now.to c.remove.ensures.ordered
-    (end_taken at_target (λ key. key.to) target_is c.args.self.now.links.entries c.remove.new.self.entries c.args.self.now.inward.entries c.remove-3.new.self.entries
-    c.args.key.now c.target_end.result c.target_end.ensures c.remove.ensures.updates.0 c.remove-3.ensures.entries c.remove-3.ensures.ordered c.remove-3.ensures.updates.0 c.requires.into) none
+    (order_taken at_target _ target_is c.args.self.now.links.entries c.remove.new.self.entries c.args.self.now.inward.entries c.remove-3.new.self.entries
+    c.args.key.now c.target_end.result c.target_end.ensures (taken_room c.args.self.now.links.entries c.remove.new.self.entries c.args.key.now c.remove.ensures.updates.0)
+    (room_left c.args.self.now.links.entries c.remove.new.self.entries c.args.key.now c.remove.ensures.updates.0) c.remove-3.ensures.entries c.remove-3.ensures.ordered c.remove-3.ensures.updates.0
+    (order_wider at_target (same_key c.args.key.now) c.args.self.now.links.entries c.args.self.now.inward.entries c.requires.into)) none
 
 pub returns-clause-row : goal.returns-clause-row
 returns-clause-row c = c.row_at-row.ensures ∙ sym (find_row c.args.self.now.links.entries c.args.key.now c.requires.rise)
@@ -49,16 +49,20 @@ returns-clause-rows c = rows_after c
 pub returns-clause-agree : goal.returns-clause-agree
 returns-clause-agree c =
     let flag = c.is_row_counting-counts.ensures
-        ∙ (ap (λ (shapes : List EdgeShape). row_counts (λ edge. is_refcount_shape (slice_get shapes edge)) c.row_at-row.result) c.deref.ensures.value
-        ∙ ap (row_counts (counts c.args.self.now)) (c.row_at-row.ensures ∙ sym (find_row c.args.self.now.links.entries c.args.key.now c.requires.rise))) in
-    let into = end_taken at_target (λ key. key.to) target_is c.args.self.now.links.entries c.remove.new.self.entries c.args.self.now.inward.entries c.remove-3.new.self.entries
-        c.args.key.now c.target_end.result c.target_end.ensures c.remove.ensures.updates.0 c.remove-3.ensures.entries c.remove-3.ensures.ordered c.remove-3.ensures.updates.0 c.requires.into in
+    ∙ (ap (λ (shapes : List EdgeShape). row_counts (λ edge. is_refcount_shape (slice_get shapes edge)) c.row_at-row.result) c.deref.ensures.value
+    ∙ ap (row_counts (counts c.args.self.now)) (c.row_at-row.ensures ∙ sym (find_row c.args.self.now.links.entries c.args.key.now c.requires.rise))) in
+    let into = order_taken at_target _ target_is c.args.self.now.links.entries c.remove.new.self.entries c.args.self.now.inward.entries c.remove-3.new.self.entries
+    c.args.key.now c.target_end.result c.target_end.ensures (taken_room c.args.self.now.links.entries c.remove.new.self.entries c.args.key.now c.remove.ensures.updates.0)
+    (room_left c.args.self.now.links.entries c.remove.new.self.entries c.args.key.now c.remove.ensures.updates.0) c.remove-3.ensures.entries c.remove-3.ensures.ordered c.remove-3.ensures.updates.0
+    (order_wider at_target (same_key c.args.key.now) c.args.self.now.links.entries c.args.self.now.inward.entries c.requires.into) in
     record {
       rise = c.remove.ensures.ordered;
       few = subst (λ (rs : List EdgeRow). length rs < 4294967296) (sym (rows_after c))
           (let less = length_filter (is_other_edge c.args.key.now) (rows_of c.args.self.now.links.entries) in let few = c.requires.few in omega arith);
-      out = end_taken at_source (λ key. key.from) source_is c.args.self.now.links.entries c.remove.new.self.entries c.args.self.now.outward.entries c.remove-2.new.self.entries
-          c.args.key.now c.source_end.result c.source_end.ensures c.remove.ensures.updates.0 c.remove-2.ensures.entries c.remove-2.ensures.ordered c.remove-2.ensures.updates.0 c.requires.out;
+      out = order_taken at_source _ source_is c.args.self.now.links.entries c.remove.new.self.entries c.args.self.now.outward.entries c.remove-2.new.self.entries
+          c.args.key.now c.source_end.result c.source_end.ensures (taken_room c.args.self.now.links.entries c.remove.new.self.entries c.args.key.now c.remove.ensures.updates.0)
+          (room_left c.args.self.now.links.entries c.remove.new.self.entries c.args.key.now c.remove.ensures.updates.0) c.remove-2.ensures.entries c.remove-2.ensures.ordered c.remove-2.ensures.updates.0
+          (order_wider at_source (same_key c.args.key.now) c.args.self.now.links.entries c.args.self.now.outward.entries c.requires.out);
       into = into;
       refs = refs_taken (counts c.args.self.now) c.args.self.now.links.entries c.remove.new.self.entries c.remove-3.new.self.entries c.args.self.now.refs.entries
           c.count_down.new.refs.entries c.forget.new.refs.entries (room_taken c.args.self.now.links.entries c.remove.new.self.entries c.args.key.now c.remove.ensures.updates.0) into
