@@ -12,8 +12,6 @@ mod parts;
 mod reading;
 mod scrubs;
 mod starting;
-#[cfg(test)]
-mod tests;
 mod vaults;
 
 pub use fault::OpenFault;

@@ -8,7 +8,11 @@ mod choices;
 #[cfg(test)]
 mod drive;
 #[cfg(test)]
+mod limits;
+#[cfg(test)]
 mod loads;
+#[cfg(test)]
+mod openings;
 #[cfg(test)]
 mod orders;
 #[cfg(test)]

@@ -8,7 +8,7 @@ use delf_model::{
     ObjectRule, ObjectType, Refusal, Rules, Schema, Status, TypeNo, What, is_spellable,
 };
 use ledger::Ledger;
-use live_graph::ListGraph;
+use live_graph::{ListGraph, ShardGraph};
 use std::alloc::Global;
 use std::process::Abort;
 use std::test::Fail;
@@ -87,20 +87,33 @@ fn pages(alloc: Global) -> Result<Schema, Fail> {
     })
 }
 
-fn opened(alloc: Global, schema: &Schema) -> Result<Ledger<ListGraph>, Fail> {
+// The rules of a schema.
+fn rules_of(alloc: Global, schema: &Schema) -> Result<Rules, Fail> {
     if !is_spellable(schema) {
         return Err(Fail::from("no text spells the schema"));
     }
-    let rules = Rules::of(alloc, schema)?;
+    Ok(Rules::of(alloc, schema)?)
+}
+
+// A blank ledger over the graph of the program.
+fn opened(alloc: Global, schema: &Schema) -> Result<Ledger<ShardGraph>, Fail> {
+    let rules = rules_of(alloc, schema)?;
+    let graph = ShardGraph::empty(alloc, &rules)?;
+    Ok(Ledger::new(alloc, rules, graph))
+}
+
+// A blank ledger over the plain graph.
+fn opened_plain(alloc: Global, schema: &Schema) -> Result<Ledger<ListGraph>, Fail> {
+    let rules = rules_of(alloc, schema)?;
     let graph = ListGraph::empty(alloc, &rules)?;
     Ok(Ledger::new(alloc, rules, graph))
 }
 
 // That the order is answered so.
-fn answers(
+fn answers<G: GraphStore>(
     rt: &impl Abort,
     alloc: Global,
-    ledger: &mut Ledger<ListGraph>,
+    ledger: &mut Ledger<G>,
     clock: &mut Moment,
     order: Order,
     wanted: Answer,
@@ -110,19 +123,30 @@ fn answers(
     Ok(())
 }
 
-// That a ledger which is blank at this moment answers each order so.
+// That a ledger answers each order so, from this moment on.
+fn plays_over<G: GraphStore>(
+    rt: &impl Abort,
+    alloc: Global,
+    ledger: &mut Ledger<G>,
+    mut clock: Moment,
+    rows: &[(Order, Answer)],
+) -> Result<(), Fail> {
+    for (order, wanted) in rows {
+        answers(rt, alloc, ledger, &mut clock, *order, *wanted)?;
+    }
+    Ok(())
+}
+
+// That a ledger which is blank at this moment answers each order so, over either graph.
 fn plays(
     rt: &impl Abort,
     alloc: Global,
     schema: &Schema,
-    mut clock: Moment,
+    clock: Moment,
     rows: &[(Order, Answer)],
 ) -> Result<(), Fail> {
-    let mut ledger = opened(alloc, schema)?;
-    for (order, wanted) in rows {
-        answers(rt, alloc, &mut ledger, &mut clock, *order, *wanted)?;
-    }
-    Ok(())
+    plays_over(rt, alloc, &mut opened(alloc, schema)?, clock, rows)?;
+    plays_over(rt, alloc, &mut opened_plain(alloc, schema)?, clock, rows)
 }
 
 fn line(job: u32, name: JobName, root: ObjectId, erased: u32, cut: u32, status: Status) -> Answer {
@@ -604,7 +628,7 @@ const WAVES: u32 = 100;
 fn wave(
     rt: &impl Abort,
     alloc: Global,
-    ledger: &mut Ledger<ListGraph>,
+    ledger: &mut Ledger<ShardGraph>,
     clock: &mut Moment,
     before: u32,
 ) -> Result<(), Fail>

@@ -1,4 +1,5 @@
 pub mod Ends
 pub mod Places
 pub mod ListGraph
+pub mod ShardGraph
 pub mod Laws

@@ -2,9 +2,9 @@
 ghost use Rattle.std.specs.Prelude.{IfOk};
 ghost use Rattle.delf_model.specs.Checked.{IsSpellable};
 
-use crate::{OpenFault, open_book};
 use delf_disk::{Area, Bytes, MemDisk, Numbers};
 use delf_model::{List, Name, ObjectRule, ObjectType, Rules, Schema};
+use delf_recovery::{OpenFault, open_book};
 use live_graph::ListGraph;
 use std::alloc::Global;
 use std::test::Fail;
