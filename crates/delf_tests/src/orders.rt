@@ -4,8 +4,8 @@ ghost use Rattle.std.specs.Prelude.{◌<◌};
 
 use crate::drive::{Answer, Order, answer_to, id};
 use delf_model::{
-    Cause, EdgeNo, EdgeRule, EdgeType, Job, JobLine, JobName, List, Moment, Name, ObjectId,
-    ObjectRule, ObjectType, Refusal, Rules, Schema, Status, TypeNo, What, is_spellable,
+    Cause, EdgeNo, EdgeRule, EdgeType, GraphStore, Job, JobLine, JobName, List, Moment, Name,
+    ObjectId, ObjectRule, ObjectType, Refusal, Rules, Schema, Status, TypeNo, What, is_spellable,
 };
 use ledger::Ledger;
 use live_graph::{ListGraph, ShardGraph};
@@ -689,5 +689,55 @@ fn many_users_come_and_go(rt: HostRuntime) -> Result<(), Fail> {
         answers(&rt, alloc, &mut ledger, &mut clock, order, wanted)?;
     }
     assert_eq!(rt; ledger.len(), 400 * WAVES);
+    Ok(())
+}
+
+// The next of a row of drawn numbers.
+fn draw(seed: u64) -> u64 {
+    seed.wrapping_mul(6_364_136_223_846_793_005)
+        .wrapping_add(1_442_695_040_888_963_407)
+}
+
+// An order about a few objects, drawn by this number.
+fn drawn(seed: u64) -> Order {
+    let a = 1 + (seed >> 20) % 12;
+    let b = 1 + (seed >> 30) % 12;
+    let name = ((seed >> 40) % 40) as u32;
+    match (seed >> 50) % 16 {
+        0 => Order::Create(USER, a, 0),
+        1 => Order::Create(PHOTO, a, 1),
+        2 => Order::Create(ALBUM, a, 2),
+        3 => Order::Create(SESSION, a, 0),
+        4 => Order::Link(OWNS, a, b),
+        5 => Order::Link(LIKES, a, b),
+        6 => Order::Link(HOLDS, a, b),
+        7 => Order::Link(3, a, b),
+        8 => Order::Unlink(HOLDS, a, b, name),
+        9 => Order::Delete(a, name),
+        10 => Order::Restore(name),
+        11 => Order::RestoreExpiry(a),
+        12 => Order::Update(a, 3),
+        13 => Order::Tick(7),
+        _ => Order::Work(2),
+    }
+}
+
+#[test]
+fn both_graphs_agree_on_drawn_calls(rt: HostRuntime) -> Result<(), Fail> {
+    let alloc = rt.alloc();
+    let schema = photos(alloc)?;
+    let mut shards = opened(alloc, &schema)?;
+    let mut plain = opened_plain(alloc, &schema)?;
+    let mut clocks = (0, 0);
+    let mut seed = 12;
+    for _ in 0..5_000 {
+        seed = draw(seed);
+        let order = drawn(seed);
+        let answer = answer_to(alloc, &mut shards, &mut clocks.0, order)?;
+        answers(&rt, alloc, &mut plain, &mut clocks.1, order, answer)?;
+    }
+    assert!(rt; shards.len() > 1_000);
+    assert!(rt; shards.graph().objects(alloc)? == plain.graph().objects(alloc)?);
+    assert!(rt; shards.graph().edges(alloc)? == plain.graph().edges(alloc)?);
     Ok(())
 }

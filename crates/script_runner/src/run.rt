@@ -4,6 +4,7 @@ ghost use Rattle.std.specs.List.{All};
 ghost use Rattle.delf_disk.specs.Causes.{Rose as DiskRose};
 ghost use Rattle.delf_disk.specs.Plain.{Plain, SameKind, SameTelling};
 ghost use Rattle.delf_io.specs.Faults.{Rose};
+ghost use Rattle.delf_recovery.specs.declared.fault.OpenFault.TheVariants.{OutOfMemory};
 ghost use Rattle.delf_model.specs.Checked.{IsSpellable, numbered};
 ghost use Rattle.delf_model.specs.Legal.{Legal};
 ghost use Rattle.delf_model.specs.Sound.{Sound};
@@ -347,11 +348,17 @@ fn make<R: Rig>(
     }
     match perform(alloc, schema, &mut store, command) {
         Ok(lines) => Ok((store, lines)),
-        Err(_) => {
-            let Store { book, clock: _ } = store;
-            Err((OpenFault::OutOfMemory, book.into_disk()))
-        }
+        Err(_) => Err(starved(store)),
     }
+}
+
+// The disk of a store, where memory was wanted.
+fn starved<R: Rig>(store: Store<R>) -> (OpenFault, R)
+    ensures fault { result.0 ≡ OutOfMemory }
+    ensures rig { result.1 ≡ store.book.rig }
+{
+    let Store { book, clock: _ } = store;
+    (OpenFault::OutOfMemory, book.into_disk())
 }
 
 // The line of an opening.
@@ -363,10 +370,7 @@ fn opened<R: Rig>(alloc: Global, store: Store<R>) -> Result<(Store<R>, Bytes), (
 {
     match opened_line(alloc, store.book.len()) {
         Ok(line) => Ok((store, line)),
-        Err(_) => {
-            let Store { book, clock: _ } = store;
-            Err((OpenFault::OutOfMemory, book.into_disk()))
-        }
+        Err(_) => Err(starved(store)),
     }
 }
 

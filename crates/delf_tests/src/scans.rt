@@ -1,0 +1,111 @@
+//! That the graph of the program answers without a look at each row.
+ghost use Rattle.std.specs.Prelude.{IfOk};
+ghost use Rattle.delf_model.specs.Checked.{IsSpellable};
+
+use delf_model::{
+    EdgeKey, EdgeNo, EdgeRow, EdgeRule, EdgeType, GraphStore, List, Name, ObjectId, ObjectRow,
+    ObjectRule, ObjectType, Rules, Schema, TypeNo,
+};
+use live_graph::ShardGraph;
+use std::alloc::Global;
+use std::test::Fail;
+
+const PAGES: u32 = 300_000;
+
+// Pages refer to pages.
+fn pages(alloc: Global) -> Result<Schema, Fail>
+    ensures { IfOk result (λ schema. IsSpellable schema) }
+{
+    let mut objects = List::new(alloc);
+    objects.push(ObjectType {
+        name: Name::of(alloc, b"page")?,
+        rule: ObjectRule::Directly,
+        line: 3,
+    })?;
+    let mut edges = List::new(alloc);
+    edges.push(EdgeType {
+        name: Name::of(alloc, b"refs")?,
+        from: Name::of(alloc, b"page")?,
+        to: Name::of(alloc, b"page")?,
+        rule: EdgeRule::Refcount,
+        line: 4,
+    })?;
+    Ok(Schema {
+        window: 100,
+        objects,
+        edges,
+    })
+}
+
+fn id(n: u32) -> Result<ObjectId, Fail> {
+    Ok(ObjectId::new(n as u64).ok_or("no id")?)
+}
+
+// The reference of a page to the next.
+fn reference(n: u32) -> Result<EdgeRow, Fail>
+    requires { n < PAGES }
+{
+    Ok(EdgeRow {
+        key: EdgeKey {
+            edge: EdgeNo(0),
+            from: id(n)?,
+            to: id(n + 1)?,
+        },
+        birth: n,
+        size: 0,
+    })
+}
+
+fn page(n: u32) -> Result<ObjectRow, Fail> {
+    Ok(ObjectRow {
+        id: id(n)?,
+        kind: TypeNo(0),
+        birth: n,
+        due: 0,
+        at: n,
+        size: 0,
+    })
+}
+
+fn add_page(graph: &mut ShardGraph, row: ObjectRow) -> Result<(), Fail> {
+    if graph.object(row.id).is_some() {
+        return Err(Fail::from("a page twice"));
+    }
+    graph.ready_object(row.id)?;
+    graph.put_object(row);
+    Ok(())
+}
+
+// All pages in a row, each but the last with a reference to the next.
+fn chained(alloc: Global) -> Result<ShardGraph, Fail> {
+    let rules = Rules::of(alloc, &pages(alloc)?)?;
+    let mut graph = ShardGraph::empty(alloc, &rules)?;
+    for n in 1..PAGES + 1 {
+        add_page(&mut graph, page(n)?)?;
+    }
+    for n in 1..PAGES {
+        let row = reference(n)?;
+        let stand = graph.object(row.key.from).is_some() && graph.object(row.key.to).is_some();
+        if !stand || graph.edge(row.key).is_some() {
+            return Err(Fail::from("no place for a reference"));
+        }
+        graph.ready_edge(row.key)?;
+        graph.put_edge(row);
+    }
+    Ok(graph)
+}
+
+#[test]
+fn a_long_chain_is_asked_about_each_page(rt: HostRuntime) -> Result<(), Fail> {
+    let graph = chained(rt.alloc())?;
+    for n in 1..PAGES + 1 {
+        let id = id(n)?;
+        assert_eq!(rt; graph.object(id), Some(page(n)?));
+        let out = if n < PAGES { Some(reference(n)?) } else { None };
+        assert_eq!(rt; graph.out_at(id, 0), out);
+        let into = if 1 < n { Some(reference(n - 1)?) } else { None };
+        assert_eq!(rt; graph.in_at(id, 0), into);
+        assert_eq!(rt; graph.ref_count(id), if 1 < n { 1 } else { 0 });
+    }
+    Ok(())
+}
