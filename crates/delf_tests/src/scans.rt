@@ -1,6 +1,7 @@
 //! That the graph of the program answers without a look at each row.
-ghost use Rattle.std.specs.Prelude.{IfOk};
+ghost use Rattle.std.specs.Prelude.{◌≡◌, ◌<◌, ◌≤◌, ◌+◌, [], length, IfOk};
 ghost use Rattle.delf_model.specs.Checked.{IsSpellable};
+ghost use Rattle.live_graph.specs.ShardGraph.{graph_of};
 
 use delf_model::{
     EdgeKey, EdgeNo, EdgeRow, EdgeRule, EdgeType, GraphStore, List, Name, ObjectId, ObjectRow,
@@ -41,16 +42,22 @@ fn id(n: u32) -> Result<ObjectId, Fail> {
     Ok(ObjectId::new(n as u64).ok_or("no id")?)
 }
 
-// The reference of a page to the next.
+// The key of the reference of a page to the next.
+fn next(n: u32) -> Result<EdgeKey, Fail>
+    requires { n < PAGES }
+{
+    Ok(EdgeKey {
+        edge: EdgeNo(0),
+        from: id(n)?,
+        to: id(n + 1)?,
+    })
+}
+
 fn reference(n: u32) -> Result<EdgeRow, Fail>
     requires { n < PAGES }
 {
     Ok(EdgeRow {
-        key: EdgeKey {
-            edge: EdgeNo(0),
-            from: id(n)?,
-            to: id(n + 1)?,
-        },
+        key: next(n)?,
         birth: n,
         size: 0,
     })
@@ -67,7 +74,9 @@ fn page(n: u32) -> Result<ObjectRow, Fail> {
     })
 }
 
-fn add_page(graph: &mut ShardGraph, row: ObjectRow) -> Result<(), Fail> {
+fn add_page(graph: &mut ShardGraph, row: ObjectRow) -> Result<(), Fail>
+    ensures { (graph_of graph.new).edges ≡ (graph_of graph.old).edges }
+{
     if graph.object(row.id).is_some() {
         return Err(Fail::from("a page twice"));
     }
@@ -76,21 +85,42 @@ fn add_page(graph: &mut ShardGraph, row: ObjectRow) -> Result<(), Fail> {
     Ok(())
 }
 
-// All pages in a row, each but the last with a reference to the next.
-fn chained(alloc: Global) -> Result<ShardGraph, Fail> {
+fn add_reference(graph: &mut ShardGraph, key: EdgeKey, birth: u32) -> Result<(), Fail>
+    requires { length (graph_of graph.old).edges < 4294967295 }
+    ensures { length (graph_of graph.new).edges ≤ length (graph_of graph.old).edges + 1 }
+{
+    if graph.object(key.from).is_none() || graph.object(key.to).is_none() {
+        return Err(Fail::from("a page is missing"));
+    }
+    if graph.edge(key).is_some() {
+        return Err(Fail::from("a reference twice"));
+    }
+    graph.ready_edge(key)?;
+    graph.put_edge(EdgeRow {
+        key,
+        birth,
+        size: 0,
+    });
+    Ok(())
+}
+
+// All pages.
+fn paged(alloc: Global) -> Result<ShardGraph, Fail>
+    ensures { IfOk result (λ graph. (graph_of graph).edges ≡ []) }
+{
     let rules = Rules::of(alloc, &pages(alloc)?)?;
     let mut graph = ShardGraph::empty(alloc, &rules)?;
     for n in 1..PAGES + 1 {
         add_page(&mut graph, page(n)?)?;
     }
+    Ok(graph)
+}
+
+// All pages in a row, each but the last with a reference to the next.
+fn chained(alloc: Global) -> Result<ShardGraph, Fail> {
+    let mut graph = paged(alloc)?;
     for n in 1..PAGES {
-        let row = reference(n)?;
-        let stand = graph.object(row.key.from).is_some() && graph.object(row.key.to).is_some();
-        if !stand || graph.edge(row.key).is_some() {
-            return Err(Fail::from("no place for a reference"));
-        }
-        graph.ready_edge(row.key)?;
-        graph.put_edge(row);
+        add_reference(&mut graph, next(n)?, n)?;
     }
     Ok(graph)
 }
