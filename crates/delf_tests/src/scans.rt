@@ -42,25 +42,20 @@ fn id(n: u32) -> Result<ObjectId, Fail> {
     Ok(ObjectId::new(n as u64).ok_or("no id")?)
 }
 
-// The key of the reference of a page to the next.
-fn next(n: u32) -> Result<EdgeKey, Fail>
-    requires { n < PAGES }
+// The reference of a page to another.
+fn reference(from: ObjectId, to: ObjectId) -> EdgeRow
+    ensures from { result.key.from ≡ from }
+    ensures to { result.key.to ≡ to }
 {
-    Ok(EdgeKey {
-        edge: EdgeNo(0),
-        from: id(n)?,
-        to: id(n + 1)?,
-    })
-}
-
-fn reference(n: u32) -> Result<EdgeRow, Fail>
-    requires { n < PAGES }
-{
-    Ok(EdgeRow {
-        key: next(n)?,
-        birth: n,
+    EdgeRow {
+        key: EdgeKey {
+            edge: EdgeNo(0),
+            from,
+            to,
+        },
+        birth: 7,
         size: 0,
-    })
+    }
 }
 
 fn page(n: u32) -> Result<ObjectRow, Fail> {
@@ -85,22 +80,19 @@ fn add_page(graph: &mut ShardGraph, row: ObjectRow) -> Result<(), Fail>
     Ok(())
 }
 
-fn add_reference(graph: &mut ShardGraph, key: EdgeKey, birth: u32) -> Result<(), Fail>
-    requires { length (graph_of graph.old).edges < 4294967295 }
-    ensures { length (graph_of graph.new).edges ≤ length (graph_of graph.old).edges + 1 }
+fn add_reference<G: GraphStore>(graph: &mut G, from: ObjectId, to: ObjectId) -> Result<(), Fail>
+    requires { length (G.graph graph.old).edges < 4294967295 }
+    ensures { length (G.graph graph.new).edges ≤ length (G.graph graph.old).edges + 1 }
 {
-    if graph.object(key.from).is_none() || graph.object(key.to).is_none() {
+    if graph.object(from).is_none() || graph.object(to).is_none() {
         return Err(Fail::from("a page is missing"));
     }
-    if graph.edge(key).is_some() {
+    let row = reference(from, to);
+    if graph.edge(row.key).is_some() {
         return Err(Fail::from("a reference twice"));
     }
-    graph.ready_edge(key)?;
-    graph.put_edge(EdgeRow {
-        key,
-        birth,
-        size: 0,
-    });
+    graph.ready_edge(row.key)?;
+    graph.put_edge(row);
     Ok(())
 }
 
@@ -120,7 +112,7 @@ fn paged(alloc: Global) -> Result<ShardGraph, Fail>
 fn chained(alloc: Global) -> Result<ShardGraph, Fail> {
     let mut graph = paged(alloc)?;
     for n in 1..PAGES {
-        add_reference(&mut graph, next(n)?, n)?;
+        add_reference(&mut graph, id(n)?, id(n + 1)?)?;
     }
     Ok(graph)
 }
@@ -129,13 +121,21 @@ fn chained(alloc: Global) -> Result<ShardGraph, Fail> {
 fn a_long_chain_is_asked_about_each_page(rt: HostRuntime) -> Result<(), Fail> {
     let graph = chained(rt.alloc())?;
     for n in 1..PAGES + 1 {
-        let id = id(n)?;
-        assert_eq!(rt; graph.object(id), Some(page(n)?));
-        let out = if n < PAGES { Some(reference(n)?) } else { None };
-        assert_eq!(rt; graph.out_at(id, 0), out);
-        let into = if 1 < n { Some(reference(n - 1)?) } else { None };
-        assert_eq!(rt; graph.in_at(id, 0), into);
-        assert_eq!(rt; graph.ref_count(id), if 1 < n { 1 } else { 0 });
+        let page_id = id(n)?;
+        assert_eq!(rt; graph.object(page_id), Some(page(n)?));
+        if n < PAGES {
+            let out = reference(page_id, id(n + 1)?);
+            assert_eq!(rt; graph.out_at(page_id, 0), Some(out));
+        } else {
+            assert!(rt; graph.out_at(page_id, 0).is_none());
+        }
+        if n > 1 {
+            let into = reference(id(n - 1)?, page_id);
+            assert_eq!(rt; graph.in_at(page_id, 0), Some(into));
+        } else {
+            assert!(rt; graph.in_at(page_id, 0).is_none());
+        }
+        assert_eq!(rt; graph.ref_count(page_id), if 1 < n { 1 } else { 0 });
     }
     Ok(())
 }

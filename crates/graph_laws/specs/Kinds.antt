@@ -28,7 +28,7 @@ pub data WhyOwned (rules : RuleSet) (history : List Entry) (job id kind due : �
       is_refcount rules edge ≡ true → takes rules kind ≡ true → WhyOwned rules history job id kind due
   -- the job cut an edge into it whose type condemns, and its own type is one that edges may condemn
   ThroughEdge : (p : ℕ) (e : Entry) (edge from : ℕ) → slice_get history p ≡ Some e → e.what ≡ Cut job edge from id →
-      condemns rules edge ≡ true → takes rules kind ≡ true → WhyOwned rules history job id kind due
+      may_condemn rules edge ≡ true → takes rules kind ≡ true → WhyOwned rules history job id kind due
 
 -- each owned object is the root of its job, or of a type that edges may condemn
 pub record OwnedForCause (rules : RuleSet) (history : List Entry) : Type 0 where
