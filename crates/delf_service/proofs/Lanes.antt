@@ -9,6 +9,7 @@ use Rattle.delf_model.specs.declared.entry.Entry.{Entry}
 use Rattle.delf_model.specs.declared.rows.ObjectRow.{ObjectRow}
 use Rattle.delf_model.specs.declared.script.LaneCommand.{LaneCommand}
 use Rattle.delf_model.specs.declared.script.LaneCommand.TheVariants.{Submit, Get}
+use Rattle.delf_model.specs.RuleSet.{RuleSet}
 use Rattle.delf_book.specs.declared.answers.BookFault.{BookFault}
 use Rattle.delf_book.specs.declared.answers.BookFault.TheVariants as fault
 use Rattle.delf_book.specs.declared.answers.Receipt.{Receipt}
@@ -21,8 +22,9 @@ use Rattle.delf_service.specs.Asks.{Inquired, ReadsIn}
 use Rattle.delf_service.specs.Calls.{AnswersIn, Submitted, added_by}
 use Rattle.delf_service.specs.Follows.{Follows, IsMoment}
 use Rattle.delf_service.specs.FollowLaws.{Follows-chain, get_first}
-use Rattle.delf_service.specs.Lanes.{Tells, at_of, next_at, own_of, accepted, IsFault, IsFresh, is_fresh, is_fresh_read, LaneTold, Makes}
-use Rattle.delf_service.proofs.Answering.{answers_follow, later_moment, later_length}
+use Rattle.delf_service.specs.Lanes.{Tells, at_of, next_at, own_of, accepted, IsFault, IsFresh, is_fresh, is_fresh_read, LaneTold, Ended, IsStarved, HasCommand, Makes, Stops}
+use Rattle.delf_service.proofs.Answering.{answers_follow, later_rules, later_moment, later_length}
+use Rattle.delf_service.proofs.Entries.{get_last}
 use Rattle.delf_service.proofs.Places.{push_cases}
 use Rattle.delf_service.proofs.Tellings.{tells_call, tells_asked, tells_later, own_later, fault_down}
 use Rattle.delf_service.proofs.Turns.{reads_follow}
@@ -133,3 +135,26 @@ module _ (s t : Standing) (old new : List Entry) (now seat : ℕ) where
         fresh = λ f. was_up x s h.later (fresh_read x t asked.found asked.fault h.asks.reads f);
         made_is = made ∙ sym (append-nil old);
       }
+
+-- numbers of a command that are below the counts stay so
+pub later_command : (x s : Standing) (c : LaneCommand) → Follows x s → HasCommand s.key.rules c → HasCommand x.key.rules c
+later_command x s c h numbers = subst (λ (r : RuleSet). HasCommand r c) (sym (later_rules x s h)) numbers
+
+-- the next reply of a lane, told of the seat by its number
+pub told_next : (now seat n i : ℕ) (commands : List LaneCommand) (s t : Standing) (old new : List Entry) (rs rs' : List LaneReply) (c : LaneCommand) (r : LaneReply)
+    → LaneTold s now seat old commands rs → length rs ≡ i → slice_get commands i ≡ Some c → n ≡ seat → Makes s t old new now n c r → rs' ≡ rs ++ r ∷ [] → LaneTold t now seat new commands rs'
+told_next now seat n i commands s t old new rs rs' c r h count there same makes longer =
+    subst (λ (l : List LaneReply). LaneTold t now seat new commands l) (sym longer)
+    (told_push now seat commands s t old new rs c r h (ap (λ (k : ℕ). slice_get commands k) count ∙ there) (subst (λ (k : ℕ). Makes s t old new now k c r) same makes))
+
+pub told_stops : (now seat : ℕ) (commands : List LaneCommand) (s t : Standing) (old new : List Entry) (rs : List LaneReply) → LaneTold s now seat old commands rs → Stops s t old new
+    → LaneTold t now seat new commands rs
+told_stops now seat commands s t old new rs h stops =
+    subst (λ (es : List Entry). LaneTold t now seat es commands rs) (sym stops.made_is) (told_later now seat commands s t old rs stops.later h)
+
+-- a lane that ended with this reply
+pub ended_by : (commands : List LaneCommand) (rs rs' : List LaneReply) (r : LaneReply) → rs' ≡ rs ++ r ∷ [] → IsStarved r → Ended commands rs'
+ended_by commands rs rs' r longer starved =
+    let l = ap (λ (x : List LaneReply). length x) longer in
+    let a = length-append rs (r ∷ []) in
+    inr (length rs, r, omega (arith, l, a), ap (λ (x : List LaneReply). slice_get x (length rs)) longer ∙ get_last rs r, starved)

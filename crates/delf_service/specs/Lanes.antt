@@ -8,11 +8,12 @@ use Rattle.delf_model.specs.declared.entry.What.{What}
 use Rattle.delf_model.specs.declared.rows.ObjectRow.{ObjectRow}
 use Rattle.delf_model.specs.declared.script.LaneCommand.{LaneCommand}
 use Rattle.delf_model.specs.declared.script.LaneCommand.TheVariants.{Submit, Get}
+use Rattle.delf_model.specs.RuleSet.{RuleSet}
 use Rattle.delf_model.specs.State.{State}
 use Rattle.delf_model.specs.Step.{after}
 use Rattle.delf_model.specs.Reply.{reply}
 use Rattle.delf_model.specs.Room.{moment_of}
-use Rattle.delf_book.specs.Books.{started_by, restored_items}
+use Rattle.delf_book.specs.Books.{HasNumbers, started_by, restored_items}
 use Rattle.delf_book.specs.declared.answers.BookFault.{BookFault}
 use Rattle.delf_book.specs.declared.answers.BookFault.TheVariants as fault
 use Rattle.delf_book.specs.declared.answers.Receipt.{Receipt}
@@ -166,3 +167,13 @@ pub record Makes (s t : Standing) (old new : List Entry) (now seat : ℕ) (comma
   pub above : length s.history ≤ at_of r
   pub fresh : IsFresh r → s.down ≡ false
   pub made_is : new ≡ old ++ own_of t r
+
+-- a question was asked, and not told: nobody made an entry
+pub record Stops (s t : Standing) (old new : List Entry) : Type 0 where
+  pub later : Follows t s
+  pub made_is : new ≡ old
+
+-- type and edge numbers of the command's call are below the counts of the rules
+abbrev pub HasCommand : RuleSet → LaneCommand → Type 0
+HasCommand rules (Submit call) = HasNumbers rules call
+HasCommand rules (Get id) = Unit {0}

@@ -8,6 +8,7 @@
 mod answers;
 mod gate;
 mod held;
+mod lane;
 mod replies;
 mod service;
 mod standing;

@@ -1,6 +1,9 @@
 //! What the commands of a lane are answered.
+ghost use Rattle.std.specs.Prelude.{IsTrue};
+ghost use Rattle.delf_service.specs.Lanes.{IsStarved};
+
 use crate::answers::{Answer, Asked};
-use delf_model::Bytes;
+use delf_model::{Bytes, Refusal};
 
 /// What one command of a lane is answered.
 #[derive(Drop)]
@@ -9,6 +12,21 @@ pub enum LaneReply {
     Submitted(Answer),
     /// Of a question, with the payload where `fault` is None.
     Got { asked: Asked, payload: Bytes },
+}
+
+impl LaneReply {
+    // Whether a call was not made for want of memory.
+    pub(crate) fn is_starved(&self) -> bool
+        ensures { IsTrue result → IsStarved self.now }
+    {
+        match self {
+            LaneReply::Submitted(answer) => match answer.reply {
+                Err(Refusal::OutOfMemory) => true,
+                _ => false,
+            },
+            LaneReply::Got { .. } => false,
+        }
+    }
 }
 
 /// What the commands of a lane are answered, in their order.

@@ -35,6 +35,7 @@ impl<G: GraphStore, R: Rig> Service<G, R> {
     /// above each seat of the history. An `Err` is want of memory, and hands the book back.
     pub fn start(alloc: Global, book: Book<G, R>) -> Result<(Service<G, R>, Seat<G, R>), Book<G, R>>
         ensures ok { IfOk result (λ r. IsOf r.0.lock r.1 × Starts (standing_of R.Disk.faults book None) (view r.1)) }
+        ensures begun { IfOk result (λ r. standing_of R.Disk.faults (start_of r.0.lock).book (start_of r.0.lock).moment ≡ standing_of R.Disk.faults book None) }
         ensures err { IfErr result (λ b. b ≡ book) }
     {
         Service::with_moment(alloc, book, None)
@@ -47,6 +48,7 @@ impl<G: GraphStore, R: Rig> Service<G, R> {
         moment: Option<Moment>,
     ) -> Result<(Service<G, R>, Seat<G, R>), Book<G, R>>
         ensures ok { IfOk result (λ r. IsOf r.0.lock r.1 × Starts (standing_of R.Disk.faults book moment) (view r.1)) }
+        ensures begun { IfOk result (λ r. standing_of R.Disk.faults (start_of r.0.lock).book (start_of r.0.lock).moment ≡ standing_of R.Disk.faults book moment) }
         ensures err { IfErr result (λ b. b ≡ book) }
     {
         let _len = book.len();

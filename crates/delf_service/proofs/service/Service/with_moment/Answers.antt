@@ -25,3 +25,6 @@ returns-in-Ok-clause-ok g c = (
     low = low_top c.args.book.rules c.args.book.history c.len-len.ensures.legal;
   },
 )
+
+pub returns-in-Ok-clause-begun : goal.returns-in-Ok-clause-begun
+returns-in-Ok-clause-begun g c = ap (λ h. standing_of g.R.Disk.faults h.book h.moment) c.in-Ok.ensures.lock.1
