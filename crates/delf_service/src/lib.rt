@@ -10,6 +10,7 @@ mod gate;
 mod held;
 mod lane;
 mod replies;
+mod rows;
 mod service;
 mod standing;
 
