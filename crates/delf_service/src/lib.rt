@@ -2,7 +2,8 @@
 //! whatever their order.
 //!
 //! A step of a worker is made whole in one turn, so its digest is computed while the others wait: `Gate` has `after`
-//! alone, and `work` holds no claim between two turns.
+//! alone, and `work` holds no claim between two turns. `run_rows` runs lanes at once; the seats are opened and joined by
+//! its caller, and workers beside the lanes are his too.
 #![tactic(auto)]
 
 mod answers;
@@ -17,6 +18,7 @@ mod standing;
 pub use answers::{Answer, Asked, Turned};
 pub use gate::{Gate, OpenGate};
 pub use held::Held;
-pub use replies::{LaneOut, LaneReply};
+pub use replies::LaneReply;
+pub use rows::Row;
 pub use service::{Seat, Service};
 pub use standing::{Key, Standing};

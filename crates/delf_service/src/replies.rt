@@ -28,9 +28,3 @@ impl LaneReply {
         }
     }
 }
-
-/// What the commands of a lane are answered, in their order.
-#[derive(Drop)]
-pub struct LaneOut {
-    pub replies: Vec<LaneReply>,
-}
