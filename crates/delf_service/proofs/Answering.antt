@@ -1,5 +1,5 @@
 -- What a call does to the standing that it finds, as the lock asks for it and as its seat sees it.
-use Rattle.std.proofs.Common.{◌≡◌, ◌≢◌, ℕ, ◌+◌, ◌*◌, ◌≤◌, true, false, List, [], ◌∷◌, ◌++◌, length, Option, Some, None, Result, Ok, Err, refl, sym, ap, ◌∙◌, subst, arith, append-nil, length-append}
+use Rattle.std.proofs.Common.{◌≡◌, ℕ, ◌+◌, ◌*◌, ◌≤◌, List, [], ◌∷◌, ◌++◌, length, Option, Some, Result, Ok, Err, sym, ap, ◌∙◌, subst, arith, append-nil, length-append}
 use Rattle.std.specs.Prelude.{slice_get, option_to_list}
 use Rattle.delf_model.specs.declared.call.Call.{Call}
 use Rattle.delf_model.specs.declared.call.Refusal.{Refusal}
@@ -14,7 +14,7 @@ use Rattle.seat_lock.specs.Promises.{OnlyMade, IsNext}
 use Rattle.delf_service.specs.declared.answers.Answer.{Answer}
 use Rattle.delf_service.specs.declared.standing.Key.{Key}
 use Rattle.delf_service.specs.declared.standing.Standing.{Standing}
-use Rattle.delf_service.specs.Calls.{AnswersIn, AcceptedIn, CallsIn, Submitted, Falls, own_entries, added_by, entry_in}
+use Rattle.delf_service.specs.Calls.{AnswersIn, AcceptedIn, CallsIn, Submitted, own_entries, added_by, entry_in}
 use Rattle.delf_service.specs.Follows.{Follows, IsMoment}
 use Rattle.delf_service.specs.Standings.{seat_of}
 use Rattle.delf_service.proofs.Entries.{push_other, push_own, get_last, entry_follows, falls_follows, same_follows, falls_history}

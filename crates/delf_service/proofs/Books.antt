@@ -1,5 +1,5 @@
 -- What a call or step of the book does to the standing.
-use Rattle.std.proofs.Common.{◌≡◌, ℕ, ◌≤◌, Bool, true, false, List, [], ◌∷◌, ◌++◌, length, Option, Some, None, Result, Ok, Err, refl, sym, ap, ◌∙◌, subst}
+use Rattle.std.proofs.Common.{◌≡◌, ℕ, ◌≤◌, Bool, true, false, List, [], ◌∷◌, ◌++◌, Option, Some, None, Result, Ok, Err, refl, sym, ap, ◌∙◌, subst}
 use Rattle.std.specs.Prelude.{is_some, IsTrue}
 use Rattle.delf_disk.specs.Causes.{Rose}
 use Rattle.delf_model.specs.declared.call.Call.{Call}
@@ -11,7 +11,7 @@ use Rattle.delf_model.specs.Graph.{object_at}
 use Rattle.delf_model.specs.RuleSet.{RuleSet}
 use Rattle.delf_model.specs.Room.{moment_of}
 use Rattle.delf_model.specs.Sound.{FirstIsLegal}
-use Rattle.delf_model.specs.State.{State, owner}
+use Rattle.delf_model.specs.State.{State}
 use Rattle.delf_book.specs.Parts.{Interrupted}
 use Rattle.delf_book.specs.Books.{Booked, state_in, Answers, CountsRefusal, Grew, Stayed, Fell, WasDown, ReadAnswers, CountsFault, OnlyRig}
 use Rattle.delf_book.specs.Steps.{StepAnswers, CountsStep}

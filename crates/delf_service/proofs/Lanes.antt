@@ -1,7 +1,6 @@
 -- The replies of a lane: one more, and in each later standing.
-use Rattle.std.proofs.Common.{◌≡◌, ℕ, zero, suc, ◌+◌, ◌<◌, ◌≤◌, ◌⊎◌, Bool, true, false, List, [], ◌∷◌, ◌++◌, length, Option, Some, None, Result, Ok, Err, refl, sym, ap, ◌∙◌, subst, arith, ⊎_elim, inl, inr, append_assoc, append-nil, length-append}
+use Rattle.std.proofs.Common.{◌≡◌, ℕ, suc, ◌<◌, ◌≤◌, Bool, true, false, List, [], ◌∷◌, ◌++◌, length, Option, Some, None, Result, Ok, Err, refl, sym, ap, ◌∙◌, subst, arith, ⊎_elim, inr, append_assoc, append-nil, length-append}
 use Rattle.std.specs.Prelude.{slice_get}
-use Rattle.std.proofs.lemmas.Option.{slice_get_within}
 use Rattle.delf_model.specs.declared.call.Call.{Call}
 use Rattle.delf_model.specs.declared.call.Refusal.{Refusal}
 use Rattle.delf_model.specs.declared.call.Refusal.TheVariants as refusal
@@ -22,7 +21,7 @@ use Rattle.delf_service.specs.Asks.{Inquired, ReadsIn}
 use Rattle.delf_service.specs.Calls.{AnswersIn, Submitted, added_by}
 use Rattle.delf_service.specs.Follows.{Follows, IsMoment}
 use Rattle.delf_service.specs.FollowLaws.{Follows-chain, get_first}
-use Rattle.delf_service.specs.Lanes.{Tells, at_of, next_at, own_of, accepted, IsFault, IsFresh, is_fresh, is_fresh_read, LaneTold, Ended, IsStarved, HasCommand, Makes, Stops}
+use Rattle.delf_service.specs.Lanes.{Tells, at_of, own_of, accepted, IsFresh, is_fresh, is_fresh_read, LaneTold, Ended, IsStarved, HasCommand, Makes, Stops}
 use Rattle.delf_service.proofs.Answering.{answers_follow, later_rules, later_moment, later_length}
 use Rattle.delf_service.proofs.Entries.{get_last}
 use Rattle.delf_service.proofs.Places.{push_cases}

@@ -1,5 +1,5 @@
 -- What is told of a command holds in the standing that it left, and in each later one.
-use Rattle.std.proofs.Common.{◌≡◌, ℕ, ◌+◌, ◌<◌, ◌≤◌, ◌⊎◌, Bool, true, false, List, [], ◌∷◌, ◌++◌, length, take, Option, Some, None, Result, Ok, Err, refl, sym, ap, ◌∙◌, subst, arith, ⊎_elim, length-append}
+use Rattle.std.proofs.Common.{◌≡◌, ℕ, ◌≤◌, true, List, [], ◌∷◌, length, take, Option, Some, None, Result, Ok, Err, refl, sym, ap, ◌∙◌, subst, arith, length-append}
 use Rattle.std.specs.Prelude.{slice_get, option_to_list}
 use Rattle.std.proofs.Math.Seq.{take-append_seam}
 use Rattle.std.proofs.lemmas.List.{take-append-le}
@@ -24,13 +24,12 @@ use Rattle.delf_service.specs.declared.answers.Answer.{Answer}
 use Rattle.delf_service.specs.declared.answers.Asked.{Asked}
 use Rattle.delf_service.specs.declared.replies.LaneReply.{LaneReply}
 use Rattle.delf_service.specs.declared.replies.LaneReply.TheVariants.{Submitted, Got}
-use Rattle.delf_service.specs.declared.standing.Key.{Key}
 use Rattle.delf_service.specs.declared.standing.Standing.{Standing}
 use Rattle.delf_service.specs.Asks.{AsksIn, ReadsIn}
 use Rattle.delf_service.specs.Calls.{AnswersIn, CallsIn, IsDown, Falls, entry_in, own_entries}
 use Rattle.delf_service.specs.Follows.{Follows}
 use Rattle.delf_service.specs.FollowLaws.{get_first}
-use Rattle.delf_service.specs.Lanes.{state_before, entry_before, TellsAccepted, TellsDown, TellsInterrupted, TellsAnswer, TellsFault, TellsAsked, TellsWhat, Tells, at_of, next_of_reply, next_at, own_of, accepted, IsFault, is_fault, IsFresh, is_fresh}
+use Rattle.delf_service.specs.Lanes.{state_before, TellsDown, TellsAnswer, TellsFault, TellsWhat, Tells, next_of_reply, next_at, own_of, IsFault, is_fault}
 use Rattle.delf_service.specs.Standings.{state_at, seat_of}
 use Rattle.delf_service.proofs.Answering.{own_is, later_rules, later_length}
 use Rattle.delf_service.proofs.Entries.{falls_history}

@@ -1,5 +1,5 @@
 -- What a question of a seat finds, and what it leaves.
-use Rattle.std.specs.Prelude.{◌≡◌, ℕ, true, false, Option, Some, None, length}
+use Rattle.std.specs.Prelude.{◌≡◌, ℕ, false, Option, Some, None, length}
 use Rattle.delf_model.specs.declared.rows.ObjectRow.{ObjectRow}
 use Rattle.delf_model.specs.Legal.{Legal}
 use Rattle.delf_book.specs.declared.answers.BookFault.{BookFault}

@@ -18,7 +18,6 @@ use Rattle.delf_book.specs.declared.answers.BookFault.{BookFault}
 use Rattle.delf_book.specs.declared.answers.BookFault.TheVariants as fault
 use Rattle.delf_book.specs.declared.answers.Receipt.{Receipt}
 use Rattle.ledger.specs.Ledgers.{found}
-use Rattle.delf_service.specs.declared.answers.Answer.{Answer}
 use Rattle.delf_service.specs.declared.answers.Asked.{Asked}
 use Rattle.delf_service.specs.declared.replies.LaneReply.{LaneReply}
 use Rattle.delf_service.specs.declared.replies.LaneReply.TheVariants.{Submitted, Got}

@@ -1,11 +1,10 @@
 -- What is known of a shared book at one moment.
-use Rattle.std.specs.Prelude.{ℕ, List, [], Option, Some, None, false}
+use Rattle.std.specs.Prelude.{ℕ, [], Option, Some, None, false}
 use Rattle.delf_model.specs.declared.entry.Entry.{Entry}
 use Rattle.delf_model.specs.declared.entry.Tag.{Tag}
 use Rattle.delf_model.specs.State.{State}
 use Rattle.delf_model.specs.Step.{tag_of, after}
 use Rattle.delf_book.specs.Books.{Booked}
-use Rattle.delf_service.specs.declared.standing.Key.{Key}
 use Rattle.delf_service.specs.declared.standing.Standing.{Standing}
 
 abbrev pub seat_of_tag : Option Tag → Option ℕ

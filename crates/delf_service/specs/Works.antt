@@ -1,5 +1,5 @@
 -- What a turn of a worker finds, and what it leaves.
-use Rattle.std.specs.Prelude.{◌≡◌, ◌≢◌, ℕ, true, false, List, Option, Some, None, Result, Ok, Err, length}
+use Rattle.std.specs.Prelude.{◌≡◌, ◌≢◌, ℕ, false, List, Option, Some, None, Result, Ok, Err, length}
 use Rattle.delf_model.specs.declared.entry.What.{What}
 use Rattle.delf_model.specs.Legal.{Legal}
 use Rattle.delf_model.specs.Order.{first_step}
