@@ -1,0 +1,10 @@
+pub mod Answering
+pub mod Books
+pub mod Entries
+pub mod Joining
+pub mod Lanes
+pub mod Numbers
+pub mod Places
+pub mod Tags
+pub mod Tellings
+pub mod Turns

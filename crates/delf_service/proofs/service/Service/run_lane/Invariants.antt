@@ -1,0 +1,17 @@
+use Rattle.std.proofs.Common.{◌≡◌, length}
+use Rattle.std.specs.Prelude.{vec_capacity}
+use Rattle.seat_lock.specs.Locks.{view, IsOf}
+use Rattle.seat_lock.specs.Views.{IsSameSeat}
+use Rattle.delf_service.specs.Follows.{Follows}
+use Rattle.delf_service.specs.Lanes.{LaneTold}
+use Rattle.delf_service.proofs.service.Service.run_lane.Given as goal
+
+abbrev pub invariant-loop-command : goal.invariant-loop-command
+invariant-loop-command g l = record {
+  ours : IsOf l.self.lock l.seat;
+  same : IsSameSeat (view l.fn.seat) (view l.seat);
+  later : Follows (view l.seat).seen.state (view l.fn.seat).seen.state;
+  count : length l.replies.items ≡ l.command-index;
+  room : vec_capacity l.replies ≡ vec_capacity l.fn.replies;
+  told : LaneTold (view l.seat).seen.state l.now (view l.fn.seat).number (view l.seat).made l.commands l.replies.items;
+}

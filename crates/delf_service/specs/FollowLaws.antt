@@ -1,0 +1,66 @@
+-- The three laws of what may come after a standing.
+use Rattle.std.proofs.Common.{◌≡◌, ℕ, zero, suc, ◌<◌, ◌≤◌, List, [], ◌∷◌, ◌++◌, length, take, refl, sym, ap, ◌∙◌, subst, arith, ⊎_elim, inl, inr}
+use Rattle.std.specs.Prelude.{slice_get}
+use Rattle.std.proofs.lemmas.Option.{slice_get_past}
+use Rattle.std.proofs.lemmas.List.{take-append-le}
+use Rattle.std.proofs.lemmas.Bool.{cases_lt}
+use Rattle.delf_disk.specs.Causes.{Rose}
+use Rattle.delf_model.specs.declared.entry.Entry.{Entry}
+use Rattle.delf_model.specs.RuleSet.{RuleSet}
+use Rattle.seat_lock.specs.Lists.{StartsWith, StartsWith-itself, StartsWith-chain}
+use Rattle.delf_service.specs.declared.standing.Key.{Key}
+use Rattle.delf_service.specs.declared.standing.Standing.{Standing}
+use Rattle.delf_service.specs.Follows.{FitsFrom, IsDated, Follows}
+
+module _ {A : Type 0} where
+  pub get_first : (xs ys : List A) (k : ℕ) → k < length xs → slice_get (xs ++ ys) k ≡ slice_get xs k
+  get_first [] ys k h = absurd (omega (arith, h))
+  get_first (x ∷ xs) ys zero h = refl
+  get_first (x ∷ xs) ys (suc k) h = get_first xs ys k (omega (arith, h))
+
+  pub fits_itself : (P : List A → A → Type 0) (xs : List A) → FitsFrom P (length xs) xs
+  fits_itself P xs k x past at = let none = slice_get_past xs k past in absurd (cc (at, none))
+
+  pub fits_chain : (P : List A → A → Type 0) (from : ℕ) (xs ys : List A) → StartsWith xs ys → FitsFrom P (length ys) xs → FitsFrom P from ys → FitsFrom P from xs
+  fits_chain P from xs ys starts behind before k x le at =
+      ⊎_elim
+      (λ less.
+      let same : slice_get xs k ≡ slice_get ys k = ap (λ (l : List A). slice_get l k) starts.1 ∙ get_first ys starts.0 k less in
+      let first : take k xs ≡ take k ys = ap (λ (l : List A). take k l) starts.1 ∙ take-append-le k ys starts.0 (omega (arith, less)) in
+      subst (λ (l : List A). P l x) (sym first) (before k x le (sym same ∙ at)))
+      (λ more. behind k x more at)
+      (cases_lt k (length ys))
+
+pub Follows-itself : (s : Standing) → Follows s s
+Follows-itself s = record {
+  history = StartsWith-itself s.history;
+  dated = λ now same. fits_itself (IsDated s.key.rules now) s.history;
+  faults = omega arith;
+  cause = λ down. inl down;
+  down = λ down. (down, refl);
+  key = refl;
+}
+
+rose_later : (a b c : ℕ) → a ≤ b → Rose b c → Rose a c
+rose_later a b c le rose = omega (arith, le, rose)
+
+rose_on : (a b c : ℕ) → b ≤ c → Rose a b → Rose a c
+rose_on a b c le rose = omega (arith, le, rose)
+
+pub Follows-chain : (s t u : Standing) → Follows s t → Follows t u → Follows s u
+Follows-chain s t u p q = record {
+  history = StartsWith-chain s.history t.history u.history p.history q.history;
+  dated = λ now same. fits_chain (IsDated s.key.rules now) (length u.history) s.history t.history p.history (p.dated now same)
+      (subst (λ (rules : RuleSet). FitsFrom (IsDated rules now) (length u.history) t.history) (sym (ap (λ (k : Key). k.rules) p.key))
+      (q.dated now (sym (ap (λ (k : Key). k.moment) p.key) ∙ same)));
+  faults = let a = p.faults in let b = q.faults in omega (arith, a, b);
+  cause = λ down. ⊎_elim
+      (λ before. ⊎_elim (λ first. inl first) (λ rose. inr (rose_on u.faults t.faults s.faults p.faults rose)) (q.cause before))
+      (λ rose. inr (rose_later u.faults t.faults s.faults q.faults rose))
+      (p.cause down);
+  down = λ down. let first = q.down down in let then = p.down first.0 in (then.0, then.1 ∙ first.1);
+  key = p.key ∙ q.key;
+}
+
+pub Follows-grows : (s t : Standing) → Follows s t → (rest : List Entry) × (s.history ≡ t.history ++ rest)
+Follows-grows s t follows = follows.history

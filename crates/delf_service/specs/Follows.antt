@@ -1,0 +1,33 @@
+-- What may come after a standing.
+use Rattle.std.specs.Prelude.{◌≡◌, ◌≤◌, ℕ, ◌⊎◌, true, List, Some, length, slice_get, take}
+use Rattle.delf_disk.specs.Causes.{Rose}
+use Rattle.delf_model.specs.declared.entry.Entry.{Entry}
+use Rattle.delf_model.specs.RuleSet.{RuleSet}
+use Rattle.delf_model.specs.Step.{after}
+use Rattle.delf_model.specs.Room.{moment_of}
+use Rattle.seat_lock.specs.Lists.{StartsWith}
+use Rattle.delf_service.specs.declared.standing.Key.{Key}
+use Rattle.delf_service.specs.declared.standing.Standing.{Standing}
+
+-- each element from this place on is one that may stand behind those before it
+abbrev pub FitsFrom : {A : Type 0} → (List A → A → Type 0) → ℕ → List A → Type 0
+FitsFrom {A} P from xs = (k : ℕ) (x : A) → from ≤ k → slice_get xs k ≡ Some x → P (take k xs) x
+
+-- the entry has the moment that a call behind this history has, where the clock says `now`
+abbrev pub IsDated : RuleSet → ℕ → List Entry → Entry → Type 0
+IsDated rules now before e = e.moment ≡ moment_of (after rules before) now
+
+-- The first standing is the second one or may come after it: the history begins with the other's, each entry behind the
+-- other's length has the moment of its place, the count of faults is no less, a book is down only where it was or where
+-- the count rose and stays so with its history, and the key is the same.
+pub record Follows (s t : Standing) : Type 0 where
+  pub history : StartsWith s.history t.history
+  pub dated : (now : ℕ) → s.key.moment ≡ Some now → FitsFrom (IsDated s.key.rules now) (length t.history) s.history
+  pub faults : t.faults ≤ s.faults
+  pub cause : s.down ≡ true → (t.down ≡ true) ⊎ Rose t.faults s.faults
+  pub down : t.down ≡ true → (s.down ≡ true) × (s.history ≡ t.history)
+  pub key : s.key ≡ t.key
+
+-- this is the moment that each call hands in, where all hand in one
+abbrev pub IsMoment : Key → ℕ → Type 0
+IsMoment key now = (m : ℕ) → key.moment ≡ Some m → m ≡ now

@@ -1,0 +1,9 @@
+pub mod Asks
+pub mod Calls
+pub mod FollowLaws
+pub mod Follows
+pub mod Lanes
+pub mod Rows
+pub mod Seats
+pub mod Standings
+pub mod Works

@@ -1,0 +1,38 @@
+-- What is known of a shared book at one moment.
+use Rattle.std.specs.Prelude.{ℕ, [], Option, Some, None, false}
+use Rattle.delf_model.specs.declared.entry.Entry.{Entry}
+use Rattle.delf_model.specs.declared.entry.Tag.{Tag}
+use Rattle.delf_model.specs.State.{State}
+use Rattle.delf_model.specs.Step.{tag_of, after}
+use Rattle.delf_book.specs.Books.{Booked}
+use Rattle.delf_service.specs.declared.standing.Standing.{Standing}
+
+abbrev pub seat_of_tag : Option Tag → Option ℕ
+seat_of_tag None = None
+seat_of_tag (Some tag) = Some tag.seat
+
+-- the number of the seat that made the entry, or none
+abbrev pub seat_of : Entry → Option ℕ
+seat_of e = seat_of_tag (tag_of e.what)
+
+-- the state after the history
+abbrev pub state_at : Standing → State
+state_at s = after s.key.rules s.history
+
+-- a book as it stands, where each call hands in this moment
+abbrev pub standing_of : {G R : Type 0} → (R → ℕ) → Booked G R → Option ℕ → Standing
+standing_of faults book moment = record {
+  history = book.history;
+  faults = faults book.rig;
+  down = book.down;
+  key = record { rules = book.rules; moment = moment };
+}
+
+-- any one
+abbrev pub blank_standing : Standing
+blank_standing = record {
+  history = [];
+  faults = 0;
+  down = false;
+  key = record { rules = record { window = 0; objects = []; edges = [] }; moment = None };
+}

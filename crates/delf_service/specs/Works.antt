@@ -1,0 +1,82 @@
+-- What a turn of a worker finds, and what it leaves.
+use Rattle.std.specs.Prelude.{◌≡◌, ◌≢◌, ℕ, false, List, Option, Some, None, Result, Ok, Err, length}
+use Rattle.delf_model.specs.declared.entry.What.{What}
+use Rattle.delf_model.specs.Legal.{Legal}
+use Rattle.delf_model.specs.Order.{first_step}
+use Rattle.delf_model.specs.Room.{moment_of}
+use Rattle.delf_model.specs.Sound.{FirstIsLegal}
+use Rattle.delf_model.specs.State.{Logged}
+use Rattle.delf_book.specs.Steps.{PutsItem}
+use Rattle.delf_book.specs.declared.answers.StepFault.{StepFault}
+use Rattle.delf_book.specs.declared.answers.StepFault.TheVariants as fault
+use Rattle.delf_service.specs.declared.answers.Turned.{Turned}
+use Rattle.delf_service.specs.declared.answers.Turned.TheVariants as turned
+use Rattle.delf_service.specs.declared.standing.Standing.{Standing}
+use Rattle.delf_service.specs.Calls.{entry_in, with_entry, Falls, IsDown}
+use Rattle.delf_service.specs.Follows.{Follows}
+use Rattle.delf_service.specs.Standings.{seat_of, state_at}
+
+-- the first step of the serial order, where the clock says `now`
+abbrev pub first_in : Standing → ℕ → Option What
+first_in s now = first_step (state_at s) (moment_of (state_at s) now)
+
+-- the step was made: its entry stands behind those that were found, and has no seat
+pub record SteppedIn (x y : Standing) (now position : ℕ) : Type 0 where
+  pub up : x.down ≡ false
+  pub what : What
+  pub is_first : first_in x now ≡ Some what
+  pub maker : seat_of (entry_in x now what) ≡ None
+  pub left : y ≡ with_entry x (entry_in x now what)
+  pub position_is : position ≡ length x.history
+
+-- there is no step
+pub record IdleIn (x y : Standing) (now len : ℕ) : Type 0 where
+  pub up : x.down ≡ false
+  pub none : first_in x now ≡ None
+  pub same : y ≡ x
+  pub length_is : len ≡ length x.history
+
+-- there is a step, and it was not made
+pub record StarvedIn (x y : Standing) (now : ℕ) : Type 0 where
+  pub up : x.down ≡ false
+  pub what : What
+  pub is_first : first_in x now ≡ Some what
+  pub same : y ≡ x
+
+-- the step met a disk fault
+pub record StepFellIn (x y : Standing) (now len : ℕ) : Type 0 where
+  pub what : What
+  pub is_first : first_in x now ≡ Some what
+  pub falls : Falls x y
+  pub length_is : len ≡ length x.history
+
+-- the item that the step would put back has another digest than the one that was logged
+pub record DamagedIn (x y : Standing) (now item : ℕ) (stored found : List ℕ) : Type 0 where
+  pub up : x.down ≡ false
+  pub what : What
+  pub is_first : first_in x now ≡ Some what
+  pub logged : Logged
+  pub puts : PutsItem (state_at x) what item logged
+  pub differ : stored ≢ found
+  pub same : y ≡ x
+
+-- the answer to a turn that finds the standing x and leaves y
+abbrev pub StepsIn : Standing → Standing → ℕ → Result Turned StepFault → Type 0
+StepsIn x y now (Ok (turned.Stepped position)) = SteppedIn x y now position
+StepsIn x y now (Ok (turned.Idle len)) = IdleIn x y now len
+StepsIn x y now (Err (fault.Down len)) = IsDown x y len
+StepsIn x y now (Err fault.OutOfMemory) = StarvedIn x y now
+StepsIn x y now (Err (fault.DiskFault len)) = StepFellIn x y now len
+StepsIn x y now (Err (fault.Damaged item stored found)) = DamagedIn x y now item stored found
+
+-- a turn finds a legal history, in which the first step of the serial order is legal, and where there is none no step is
+pub record TurnsIn (x y : Standing) (now : ℕ) (outcome : Result Turned StepFault) : Type 0 where
+  pub legal : Legal x.key.rules x.history
+  pub order : x.down ≡ false → FirstIsLegal (state_at x) (moment_of (state_at x) now)
+  pub steps : StepsIn x y now outcome
+
+-- what the seat has seen before and after a turn
+pub record Worked (before after : Standing) (now : ℕ) (outcome : Result Turned StepFault) : Type 0 where
+  pub found : Standing
+  pub later : Follows found before
+  pub turns : TurnsIn found after now outcome

@@ -1,0 +1,88 @@
+//! The book as the turn lock guards it, and what one turn does to it.
+ghost use Rattle.std.specs.Prelude.{◌≡◌, ◌*◌, ◌+◌, ◌≤◌, length};
+ghost use Rattle.delf_book.specs.Books.{HasNumbers};
+ghost use Rattle.delf_service.specs.Standings.{seat_of, standing_of, blank_standing};
+ghost use Rattle.delf_service.specs.Follows.{Follows};
+ghost use Rattle.delf_service.specs.FollowLaws.{Follows-itself, Follows-chain, Follows-grows};
+ghost use Rattle.delf_service.specs.Calls.{CallsIn};
+ghost use Rattle.delf_service.specs.Asks.{AsksIn};
+ghost use Rattle.delf_service.specs.Works.{TurnsIn};
+
+use crate::answers::{Answer, Asked, Turned};
+use crate::standing::Standing;
+use delf_book::{Book, StepFault, Worked};
+use delf_disk::Rig;
+use delf_model::{Call, Entry, GraphStore, LIMIT, Moment, ObjectId};
+use seat_lock::Counted;
+
+/// A book under the lock, with the moment that each call hands in, where all hand in one.
+#[derive(Drop)]
+pub struct Held<G: GraphStore, R: Rig> {
+    pub(crate) book: Book<G, R>,
+    pub(crate) moment: Option<Moment>,
+}
+
+impl<G: GraphStore, R: Rig> Counted for Held<G, R> {
+    type State = Standing;
+
+    type Entry = Entry;
+
+    ghost state = { λ h. standing_of R.Disk.faults h.book h.moment };
+
+    ghost blank = { blank_standing };
+
+    ghost entries = { λ s. s.history };
+
+    ghost maker = { seat_of };
+
+    ghost follows = { Follows };
+
+    ghost itself = { Follows-itself };
+
+    ghost chain = { Follows-chain };
+
+    ghost grows = { Follows-grows };
+
+    fn count(&self) -> u32 {
+        self.book.len()
+    }
+}
+
+impl<G: GraphStore, R: Rig> Held<G, R> {
+    // A writing call of this seat.
+    pub(crate) fn submit(&mut self, now: Moment, seat: u32, call: &Call) -> Answer
+        requires numbers { HasNumbers self.old.book.rules call.now }
+        requires seat { seat ≤ 64 * (length self.old.book.history + 1) }
+        ensures { CallsIn (standing_of R.Disk.faults self.old.book self.old.moment) (standing_of R.Disk.faults self.new.book self.new.moment) now seat call.now result }
+    {
+        let at = self.book.len();
+        let reply = self.book.call(now, seat, call);
+        Answer { at, reply }
+    }
+
+    // The object with its owner, and its payload, at the front of the bytes.
+    pub(crate) fn ask(&mut self, id: ObjectId) -> (Asked, [u8; LIMIT])
+        ensures { AsksIn (standing_of R.Disk.faults self.old.book self.old.moment) (standing_of R.Disk.faults self.new.book self.new.moment) id result.0 }
+    {
+        let mut bytes = [0; LIMIT];
+        let at = self.book.len();
+        let found = self.book.get(id);
+        let fault = match &found {
+            Some(_) => self.book.read_object(id, &mut bytes).err(),
+            None => None,
+        };
+        (Asked { at, found, fault }, bytes)
+    }
+
+    // A step of a worker.
+    pub(crate) fn work(&mut self, now: Moment) -> Result<Turned, StepFault>
+        ensures { TurnsIn (standing_of R.Disk.faults self.old.book self.old.moment) (standing_of R.Disk.faults self.new.book self.new.moment) now result }
+    {
+        let _len = self.book.len();
+        match self.book.work(now) {
+            Ok(Worked::Stepped { position }) => Ok(Turned::Stepped { position }),
+            Ok(Worked::Idle { len }) => Ok(Turned::Idle { len }),
+            Err(fault) => Err(fault),
+        }
+    }
+}

@@ -1,0 +1,24 @@
+//! One book for many seats: writers and workers take turns at it on threads, and one legal history comes out of it,
+//! whatever their order.
+//!
+//! A step of a worker is made whole in one turn, so its digest is computed while the others wait: `Gate` has `after`
+//! alone, and `work` holds no claim between two turns. `run_rows` runs lanes at once; the seats are opened and joined by
+//! its caller, and workers beside the lanes are his too.
+#![tactic(auto)]
+
+mod answers;
+mod gate;
+mod held;
+mod lane;
+mod replies;
+mod rows;
+mod service;
+mod standing;
+
+pub use answers::{Answer, Asked, Turned};
+pub use gate::{Gate, OpenGate};
+pub use held::Held;
+pub use replies::LaneReply;
+pub use rows::Row;
+pub use service::{Seat, Service};
+pub use standing::{Key, Standing};

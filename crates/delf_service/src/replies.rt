@@ -1,0 +1,30 @@
+//! What the commands of a lane are answered.
+ghost use Rattle.std.specs.Prelude.{IsTrue};
+ghost use Rattle.delf_service.specs.Lanes.{IsStarved};
+
+use crate::answers::{Answer, Asked};
+use delf_model::{Bytes, Refusal};
+
+/// What one command of a lane is answered.
+#[derive(Drop)]
+pub enum LaneReply {
+    /// Of a writing call.
+    Submitted(Answer),
+    /// Of a question, with the payload where `fault` is None.
+    Got { asked: Asked, payload: Bytes },
+}
+
+impl LaneReply {
+    // Whether a call was not made for want of memory.
+    pub(crate) fn is_starved(&self) -> bool
+        ensures { IsTrue result → IsStarved self.now }
+    {
+        match self {
+            LaneReply::Submitted(answer) => match answer.reply {
+                Err(Refusal::OutOfMemory) => true,
+                _ => false,
+            },
+            LaneReply::Got { .. } => false,
+        }
+    }
+}
