@@ -16,3 +16,9 @@ returns-in-Ok-clause-stops g c = if_err _ c.opened.result (λ it is plain e.
 
 pub returns-in-Err-clause-stops : goal.returns-in-Err-clause-stops
 returns-in-Err-clause-stops g c = λ plain e. rw c.in-Crash.is (c.in-Err.ensures.stops plain e)
+
+pub returns-in-Err-perform-clause-stops : goal.returns-in-Err-perform-clause-stops
+returns-in-Err-perform-clause-stops g c = λ plain e. rw c.starved.ensures.rig (rw c.starved.ensures.fault (c.in-Err-perform.ensures.halts plain e))
+
+pub returns-in-Err-perform-clause-err_telling : goal.returns-in-Err-perform-clause-err_telling
+returns-in-Err-perform-clause-err_telling g c = rw c.starved.ensures.rig c.in-Err-perform.ensures.telling
