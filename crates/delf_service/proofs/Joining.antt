@@ -19,7 +19,7 @@ use Rattle.delf_service.proofs.Places.{push_cases}
 abbrev SeatView : Type 0
 SeatView = View Standing Entry
 
-map-push : {A B : Type 0} (f : A → B) (xs : List A) (x : A) → map f (xs ++ x ∷ []) ≡ map f xs ++ f x ∷ []
+pub map-push : {A B : Type 0} (f : A → B) (xs : List A) (x : A) → map f (xs ++ x ∷ []) ≡ map f xs ++ f x ∷ []
 map-push f [] x = refl
 map-push f (y ∷ xs) x = ap (λ (l : List _). f y ∷ l) (map-push f xs x)
 

@@ -1,4 +1,5 @@
 pub mod Answering
+pub mod Blocks
 pub mod Books
 pub mod Entries
 pub mod Joining

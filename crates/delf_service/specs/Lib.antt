@@ -1,8 +1,10 @@
 pub mod Asks
+pub mod Blocks
 pub mod Calls
 pub mod FollowLaws
 pub mod Follows
 pub mod Lanes
+pub mod Openings
 pub mod Rows
 pub mod Seats
 pub mod Standings

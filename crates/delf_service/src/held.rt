@@ -1,5 +1,5 @@
 //! The book as the turn lock guards it, and what one turn does to it.
-ghost use Rattle.std.specs.Prelude.{◌≡◌, ◌*◌, ◌+◌, ◌≤◌, length};
+ghost use Rattle.std.specs.Prelude.{◌≡◌, ◌*◌, ◌+◌, ◌≤◌, Some, OnOk, length};
 ghost use Rattle.delf_book.specs.Books.{HasNumbers};
 ghost use Rattle.delf_service.specs.Standings.{seat_of, standing_of, blank_standing};
 ghost use Rattle.delf_service.specs.Follows.{Follows};
@@ -7,6 +7,7 @@ ghost use Rattle.delf_service.specs.FollowLaws.{Follows-itself, Follows-chain, F
 ghost use Rattle.delf_service.specs.Calls.{CallsIn};
 ghost use Rattle.delf_service.specs.Asks.{AsksIn};
 ghost use Rattle.delf_service.specs.Works.{TurnsIn};
+ghost use Rattle.delf_service.specs.Blocks.{IsBehind, Rests};
 
 use crate::answers::{Answer, Asked, Turned};
 use crate::standing::Standing;
@@ -14,6 +15,7 @@ use delf_book::{Book, StepFault, Worked};
 use delf_disk::Rig;
 use delf_model::{Call, Entry, GraphStore, LIMIT, Moment, ObjectId};
 use seat_lock::Counted;
+use std::alloc::AllocError;
 
 /// A book under the lock, with the moment that each call hands in, where all hand in one.
 #[derive(Drop)]
@@ -83,6 +85,24 @@ impl<G: GraphStore, R: Rig> Held<G, R> {
             Ok(Worked::Stepped { position }) => Ok(Turned::Stepped { position }),
             Ok(Worked::Idle { len }) => Ok(Turned::Idle { len }),
             Err(fault) => Err(fault),
+        }
+    }
+
+    // Makes steps until none is left, or a fault is met. The only error is want of memory for a step.
+    pub(crate) fn finish(&mut self, now: Moment) -> Result<(), AllocError>
+        requires moment { self.old.moment ≡ Some now }
+        ensures moment { self.new.moment ≡ self.old.moment }
+        ensures behind { IsBehind (standing_of R.Disk.faults self.old.book self.old.moment) (standing_of R.Disk.faults self.new.book self.new.moment) }
+        ensures rests { OnOk result (Rests (standing_of R.Disk.faults self.new.book self.new.moment) now) }
+    {
+        loop {
+            let outcome = self.work(now);
+            let _len = self.book.len();
+            match outcome {
+                Ok(Turned::Stepped { .. }) => {}
+                Err(StepFault::OutOfMemory) => return Err(AllocError),
+                _ => return Ok(()),
+            }
         }
     }
 }

@@ -2,11 +2,12 @@
 //! whatever their order.
 //!
 //! A step of a worker is made whole in one turn, so its digest is computed while the others wait: `Gate` has `after`
-//! alone, and `work` holds no claim between two turns. `run_rows` runs lanes at once; the seats are opened and joined by
-//! its caller, and workers beside the lanes are his too.
+//! alone, and `work` holds no claim between two turns. `run_lanes` runs lanes at once and makes the steps that are left
+//! behind them; it has no workers beside the lanes.
 #![tactic(auto)]
 
 mod answers;
+mod block;
 mod gate;
 mod held;
 mod lane;
@@ -16,9 +17,10 @@ mod service;
 mod standing;
 
 pub use answers::{Answer, Asked, Turned};
+pub use block::run_lanes;
 pub use gate::{Gate, OpenGate};
 pub use held::Held;
-pub use replies::LaneReply;
+pub use replies::{LaneOut, LaneReply};
 pub use rows::Row;
 pub use service::{Seat, Service};
 pub use standing::{Key, Standing};

@@ -3,7 +3,7 @@ ghost use Rattle.std.specs.Prelude.{IsTrue};
 ghost use Rattle.delf_service.specs.Lanes.{IsStarved};
 
 use crate::answers::{Answer, Asked};
-use delf_model::{Bytes, Refusal};
+use delf_model::{Bytes, List, Refusal};
 
 /// What one command of a lane is answered.
 #[derive(Drop)]
@@ -12,6 +12,12 @@ pub enum LaneReply {
     Submitted(Answer),
     /// Of a question, with the payload where `fault` is None.
     Got { asked: Asked, payload: Bytes },
+}
+
+/// What the commands of one lane are answered, each in its turn.
+#[derive(Drop)]
+pub struct LaneOut {
+    pub replies: List<LaneReply>,
 }
 
 impl LaneReply {

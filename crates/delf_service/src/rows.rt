@@ -16,6 +16,7 @@ use std::sync::Wait;
 use std::thread::{Threads, for_each_mut};
 
 /// A seat with what its lane was answered, and whether it ended for want of memory for a payload.
+#[derive(Drop)]
 pub struct Row<V: Counted> {
     pub seat: Seat<V>,
     pub replies: Vec<LaneReply>,

@@ -1,0 +1,252 @@
+-- Rows that are opened, run and joined, and the steps behind them.
+use Rattle.std.proofs.Common.{◌≡◌, ℕ, ◌+◌, ◌*◌, ◌<◌, ◌≤◌, ◌⊎◌, Bool, true, false, List, [], ◌∷◌, ◌++◌, length, map, take, drop, Option, Some, None, refl, sym, ap, ◌∙◌, subst, arith, ⊎_elim}
+use Rattle.std.specs.Prelude.{slice_get, option_map, slice_index_or}
+use Rattle.std.proofs.lemmas.Bool.{cases_lt}
+use Rattle.std.proofs.Math.Seq.{take-append_seam}
+use Rattle.std.proofs.lemmas.List.{length-map}
+use Rattle.std.proofs.lemmas.Option.{slice_get-map, slice_get_within, slice_get-get_or, get_or_from_slice_get}
+use Rattle.delf_model.specs.declared.entry.Entry.{Entry}
+use Rattle.delf_model.specs.declared.script.Lane.{Lane}
+use Rattle.delf_model.specs.declared.script.LaneCommand.{LaneCommand}
+use Rattle.delf_model.specs.Legal.{Legal}
+use Rattle.seat_lock.specs.declared.view.View.{View}
+use Rattle.seat_lock.specs.Views.{made_by, moment, newcomer, rooted, split_root, split_off}
+use Rattle.delf_service.specs.declared.replies.LaneOut.{LaneOut}
+use Rattle.delf_service.specs.declared.replies.LaneReply.{LaneReply}
+use Rattle.delf_service.specs.declared.standing.Key.{Key}
+use Rattle.delf_service.specs.declared.standing.Standing.{Standing}
+use Rattle.delf_service.specs.Blocks.{root_of, lane_seat, Rests, IsBehind, HasLanes, IsBlock}
+use Rattle.delf_service.specs.Follows.{Follows, IsMoment}
+use Rattle.delf_service.specs.FollowLaws.{Follows-itself, Follows-chain}
+use Rattle.delf_service.specs.Lanes.{HasCommand, LaneTold, Ended}
+use Rattle.delf_service.specs.Openings.{HasRoom, has_next, IsRoomFor, OpenedAt, RanLanes}
+use Rattle.delf_service.specs.Rows.{commands_at, IsReady, IsRun}
+use Rattle.delf_service.specs.Seats.{Starts, Closed}
+use Rattle.delf_service.specs.Standings.{seat_of}
+use Rattle.delf_service.proofs.Joining.{map-push}
+use Rattle.delf_service.proofs.Lanes.{told_later}
+use Rattle.delf_service.proofs.Numbers.{fresh_from}
+use Rattle.delf_service.proofs.Places.{push_cases}
+
+abbrev SeatView : Type 0
+SeatView = View Standing Entry
+
+-- one element more on both sides
+pub pushed_map : {A B : Type 0} (f : A → B) (ys ys' : List B) (xs : List A) (x : A) → ys ≡ map f xs → ys' ≡ ys ++ f x ∷ [] → ys' ≡ map f (xs ++ x ∷ [])
+pushed_map f ys ys' xs x same more = more ∙ (ap (λ (l : List _). l ++ f x ∷ []) same ∙ sym (map-push f xs x))
+
+pub pushed_maps : {A B C : Type 0} (f : A → C) (g : B → C) (xs xs' : List A) (ys : List B) (x : A) (y : B) → map f xs ≡ map g ys → xs' ≡ xs ++ x ∷ [] → f x ≡ g y → map f xs' ≡ map g (ys ++ y ∷ [])
+pushed_maps f g xs xs' ys x y same more one =
+    ap (λ (l : List _). map f l) more ∙ (map-push f xs x ∙ (ap (λ (l : List _). l ++ f x ∷ []) same ∙ (ap (λ (z : _). map g ys ++ z ∷ []) one ∙ sym (map-push g ys y))))
+
+pub mapped_push : {A C : Type 0} (f : A → C) (xs xs' : List A) (ys : List C) (x : A) → map f xs ≡ ys → xs' ≡ xs ++ x ∷ [] → map f xs' ≡ ys ++ f x ∷ []
+mapped_push f xs xs' ys x same more = ap (λ (l : List _). map f l) more ∙ (map-push f xs x ∙ ap (λ (l : List _). l ++ f x ∷ []) same)
+
+pub is_moment : (key : Key) (now : ℕ) → key.moment ≡ Some now → IsMoment key now
+is_moment key now is m same = cc (is, same)
+
+some_of : {A B : Type 0} (f : A → B) (o : Option A) (y : B) → option_map f o ≡ Some y → (x : A) × (o ≡ Some x) × (f x ≡ y)
+some_of f None y h = absurd (cc h)
+some_of f (Some x) y h = (x, refl, cc h)
+
+-- an element of one of two lists that are the same by f and g
+pub other_at : {A B C : Type 0} (f : A → C) (g : B → C) (xs : List A) (ys : List B) (k : ℕ) (x : A) → map f xs ≡ map g ys → slice_get xs k ≡ Some x → (y : B) × (slice_get ys k ≡ Some y) × (g y ≡ f x)
+other_at f g xs ys k x same at =
+    let here : slice_get (map f xs) k ≡ Some (f x) = slice_get-map f xs k ∙ ap (λ (o : Option _). option_map f o) at in
+    some_of g (slice_get ys k) (f x) (sym (slice_get-map g ys k) ∙ (ap (λ (l : List _). slice_get l k) (sym same) ∙ here))
+
+pub map_at : {A C : Type 0} (f : A → C) (xs : List A) (ys : List C) (k : ℕ) (x : A) → map f xs ≡ ys → slice_get xs k ≡ Some x → slice_get ys k ≡ Some (f x)
+map_at f xs ys k x same at = ap (λ (l : List _). slice_get l k) (sym same) ∙ (slice_get-map f xs k ∙ ap (λ (o : Option _). option_map f o) at)
+
+-- an element of a list that is another one by g
+pub from_map : {B C : Type 0} (g : B → C) (cs : List C) (ys : List B) (k : ℕ) (c : C) → cs ≡ map g ys → slice_get cs k ≡ Some c → (y : B) × (slice_get ys k ≡ Some y) × (g y ≡ c)
+from_map g cs ys k c same at = some_of g (slice_get ys k) c (sym (slice_get-map g ys k) ∙ (ap (λ (l : List _). slice_get l k) (sym same) ∙ at))
+
+-- a clause of each row is one of what was taken out of it
+pub part_each : {B C : Type 0} (g : B → C) (P : C → Type 0) (cs : List C) (ys : List B) → cs ≡ map g ys → ((k : ℕ) (y : B) → slice_get ys k ≡ Some y → P (g y)) → (k : ℕ) (c : C) → slice_get cs k ≡ Some c → P c
+part_each g P cs ys same each k c at = let y = from_map g cs ys k c same at in subst (λ (z : _). P z) y.2 (each k y.0 y.1)
+
+map_map : {A B C : Type 0} (f : A → B) (g : B → C) (xs : List A) → map g (map f xs) ≡ map (λ x. g (f x)) xs
+map_map f g [] = refl
+map_map f g (x ∷ xs) = ap (λ (l : List _). g (f x) ∷ l) (map_map f g xs)
+
+pub views_of : {A B C : Type 0} (f : A → B) (g : B → C) (ys : List B) (xs : List A) → ys ≡ map f xs → map g ys ≡ map (λ x. g (f x)) xs
+views_of f g ys xs same = ap (λ (l : List _). map g l) same ∙ map_map f g xs
+
+-- what is known of each element of a slice is known of the vector that it was lent from
+pub run_written : {R : Type 0} (P : R → R → ℕ → Type 0) (len : ℕ) (old seen new : List R) → seen ≡ old → length new ≡ length old → len ≡ length old
+    → ((k : ℕ) (d : R) → k < length seen → P (slice_index_or seen k d) (slice_index_or new k d) k) → (k : ℕ) (d : R) → k < length old
+    → P (slice_index_or old k d) (slice_index_or (take len (new ++ drop (length new) old)) k d) k
+run_written {R} P len old seen new same long is each k d less =
+    let front : take len (new ++ drop (length new) old) ≡ new = ap (λ (n : ℕ). take n (new ++ drop (length new) old)) (is ∙ sym long) ∙ take-append_seam new (drop (length new) old) in
+    let first : (l : List R) → seen ≡ l → k < length l → P (slice_index_or l k d) (slice_index_or new k d) k = λ l to under. subst (λ (l : List R). k < length l → P (slice_index_or l k d) (slice_index_or new k d) k) to (each k d) under in
+    subst (λ (l : List R). P (slice_index_or old k d) (slice_index_or l k d) k) (sym front) (first old same less)
+
+-- one split more
+pub next_root : (v w w' : SeatView) (n m : ℕ) → w ≡ has_next v n → w' ≡ split_root w → m ≡ n + 1 → w' ≡ has_next v m
+next_root v w w' n m was is one =
+    let count : v.next + n + 1 ≡ v.next + m = omega (arith, one) in
+    is ∙ (ap (λ (z : SeatView). split_root z) was ∙ ap (λ (k : ℕ). record v { next = k }) count)
+
+module _ {R : Type 0} (seat : R → SeatView) (mine : R → Type 0) where
+  -- one row more is opened
+  pub opened_more : (v w : SeatView) (rows rows' : List R) (row : R) (n : ℕ) → length rows ≡ n → w ≡ has_next v n → ((k : ℕ) (r : R) → slice_get rows k ≡ Some r → mine r × OpenedAt v k (seat r))
+      → rows' ≡ rows ++ row ∷ [] → mine row → seat row ≡ split_off w → (k : ℕ) (r : R) → slice_get rows' k ≡ Some r → mine r × OpenedAt v k (seat r)
+  opened_more v w rows rows' row n count was each more own off k r at = ⊎_elim
+      (λ before. each k r before.1)
+      (λ here.
+      let place : n ≡ k = sym (here.0 ∙ count) in
+      let new : OpenedAt v n (seat row) = off ∙ ap (λ (z : SeatView). split_off z) was in
+      subst (λ (z : R). mine z × OpenedAt v k (seat z)) here.1 (own, subst (λ (i : ℕ). OpenedAt v i (seat row)) place new))
+      (push_cases rows row r k (ap (λ (l : List R). slice_get l k) (sym more) ∙ at))
+
+-- the seat of a lane, as it is opened
+module _ (first : Standing) where
+  abbrev new_seat : ℕ → SeatView
+  new_seat k = newcomer (lane_seat first k) (moment 0 first)
+
+  ready_new : (now : ℕ) (lanes : List Lane) (k : ℕ) (replies : List LaneReply) (room : ℕ) → first.key.moment ≡ Some now → root_of first ≤ 64 * length first.history + 1 → k < 16
+      → ((i : ℕ) (c : LaneCommand) → slice_get (commands_at lanes k) i ≡ Some c → HasCommand first.key.rules c) → HasRoom (commands_at lanes k) replies room
+      → IsReady now (commands_at lanes k) (new_seat k) replies room
+  ready_new now lanes k replies room is low few numbers has = record {
+    numbers = numbers;
+    number = omega (arith, low, few);
+    moment = is_moment first.key now is;
+    made = refl;
+    none = has.0;
+    fits = has.1;
+  }
+
+  opened_at : (v w : SeatView) (k : ℕ) → v ≡ rooted (root_of first) first → OpenedAt v k w → w ≡ new_seat k
+  opened_at v w k is opened = opened ∙ ap (λ (z : SeatView). newcomer (z.next + k) z.seen) is
+
+  -- each row is ready
+  module _ {R L : Type 0} (seat : R → SeatView) (mine : R → Type 0) (own : R → L) (items : L → List LaneReply) (room : L → ℕ) where
+    pub ready_each : (now : ℕ) (lanes : List Lane) (v : SeatView) (rows : List R) (lists : List L) → Starts first v → first.key.moment ≡ Some now → length lanes ≤ 16
+        → ((k i : ℕ) (c : LaneCommand) → slice_get (commands_at lanes k) i ≡ Some c → HasCommand first.key.rules c) → IsRoomFor lanes items room lists → map own rows ≡ lists
+        → ((k : ℕ) (r : R) → slice_get rows k ≡ Some r → mine r × OpenedAt v k (seat r)) → (k : ℕ) (d : R) → k < length rows
+        → mine (slice_index_or rows k d) × IsReady now (commands_at lanes k) (seat (slice_index_or rows k d)) (items (own (slice_index_or rows k d))) (room (own (slice_index_or rows k d)))
+    ready_each now lanes v rows lists starts is few numbers fits same each k d less =
+        let r = slice_index_or rows k d in
+        let at : slice_get rows k ≡ Some r = slice_get-get_or rows k d less in
+        let opened = each k r at in
+        let long = length-map rows own in
+        let count : length (map own rows) ≡ length lists = ap (λ (l : List L). length l) same in
+        let lanes_are = fits.0 in
+        let low = starts.low in
+        let has = fits.1 k (own r) (map_at own rows lists k r same at) in (
+          opened.0,
+          subst (λ (z : SeatView). IsReady now (commands_at lanes k) z (items (own r)) (room (own r))) (sym (opened_at v (seat r) k starts.root_is opened.1))
+              (ready_new now lanes k (items (own r)) (room (own r)) is (omega (arith, low)) (omega (arith, less, long, count, lanes_are, few)) (λ i c there. numbers k i c there) has),
+        )
+
+  -- what each row was answered
+  abbrev pub RanAt : ℕ → List Lane → ℕ → SeatView → List LaneReply → Bool → Type 0
+  RanAt now lanes k w replies starved = IsRun now (commands_at lanes k) (new_seat k) w replies starved
+
+  module _ {R : Type 0} (seat : R → SeatView) (mine : R → Type 0) (replies : R → List LaneReply) (starved : R → Bool) where
+    pub ran_each : (now : ℕ) (lanes : List Lane) (v : SeatView) (old new : List R) → v ≡ rooted (root_of first) first → length new ≡ length old
+        → ((k : ℕ) (r : R) → slice_get old k ≡ Some r → mine r × OpenedAt v k (seat r))
+        → ((k : ℕ) (d : R) → k < length old → mine (slice_index_or new k d)
+        × IsRun now (commands_at lanes k) (seat (slice_index_or old k d)) (seat (slice_index_or new k d)) (replies (slice_index_or new k d)) (starved (slice_index_or new k d)))
+        → (k : ℕ) (r : R) → slice_get new k ≡ Some r → mine r × RanAt now lanes k (seat r) (replies r) (starved r)
+    ran_each now lanes v old new is long each run k r at =
+        let within = slice_get_within new k r at in
+        let less : k < length old = omega (arith, within, long) in
+        let o = slice_index_or old k r in
+        let did = run k r less in
+        let here : slice_index_or new k r ≡ r = get_or_from_slice_get new k r r at in
+        let was : seat o ≡ new_seat k = opened_at v (seat o) k is (each k o (slice_get-get_or old k r less)).1 in
+        subst (λ (z : R). mine z × RanAt now lanes k (seat z) (replies z) (starved z)) here
+        (did.0, subst (λ (z : SeatView). IsRun now (commands_at lanes k) z (seat (slice_index_or new k r)) (replies (slice_index_or new k r)) (starved (slice_index_or new k r))) was did.1)
+
+    module _ (now : ℕ) (lanes : List Lane) (last : Standing) (v w : SeatView) (rows : List R) (seats : List SeatView) (outs : List LaneOut)
+        (starts : Starts first v) (count : length rows ≡ length lanes) (root : w ≡ has_next v (length lanes)) (seats_are : seats ≡ map seat rows)
+        (outs_are : map (λ out. out.replies) outs ≡ map replies rows) (ran : (k : ℕ) (r : R) → slice_get rows k ≡ Some r → mine r × RanAt now lanes k (seat r) (replies r) (starved r))
+        (closed : Closed first w seats last) where
+      root_is : w ≡ has_next (rooted (root_of first) first) (length lanes)
+      root_is = root ∙ ap (λ (z : SeatView). has_next z (length lanes)) starts.root_is
+
+      told_at : (k : ℕ) (r : R) → slice_get rows k ≡ Some r → LaneTold last now (lane_seat first k) (made_by seat_of (lane_seat first k) last.history) (commands_at lanes k) (replies r)
+      told_at k r at =
+          let run = (ran k r at).1 in
+          let s = seat r in
+          let there : slice_get seats k ≡ Some s = ap (λ (l : List SeatView). slice_get l k) seats_are ∙ (slice_get-map seat rows k ∙ ap (λ (o : Option R). option_map seat o) at) in
+          let same : s.number ≡ lane_seat first k = run.same.0 in
+          let made : s.made ≡ made_by seat_of (lane_seat first k) last.history = sym (subst (λ (n : ℕ). made_by seat_of n last.history ≡ s.made) same (closed.made k s there)) in
+          subst (λ (es : List Entry). LaneTold last now (lane_seat first k) es (commands_at lanes k) (replies r)) made
+          (told_later now (lane_seat first k) (commands_at lanes k) s.seen.state last s.made (replies r) (closed.later k s there) run.told)
+
+      others : (n : ℕ) → (n ≤ root_of first) ⊎ (lane_seat first (length lanes) ≤ n) → made_by seat_of n last.history ≡ made_by seat_of n first.history
+      others n where_is = ⊎_elim
+          (λ below. ⊎_elim
+          (λ less. closed.elder n (subst (λ (z : SeatView). n < z.number) (sym root_is) less))
+          (λ more.
+          let here : root_of first ≡ n = omega (arith, below, more) in
+          subst (λ (m : ℕ). made_by seat_of m last.history ≡ made_by seat_of m first.history) here
+          (subst (λ (z : SeatView). made_by seat_of z.number last.history ≡ z.made) root_is closed.own ∙ sym (starts.fresh (root_of first) (omega arith))))
+          (cases_lt n (root_of first)))
+          (λ above. closed.unborn n (subst (λ (z : SeatView). z.next ≤ n) (sym root_is) (omega (arith, above))) ∙ sym (starts.fresh n (omega (arith, above))))
+          where_is
+
+      pub ran_all : (fed : Bool) → (fed ≡ true → (k : ℕ) (r : R) → slice_get rows k ≡ Some r → starved r ≡ false) → RanLanes first last now lanes outs fed
+      ran_all fed each = record {
+        has = record {
+          later = subst (λ (z : SeatView). Follows last z.seen.state) root_is closed.first;
+          legal = closed.legal;
+          fresh = starts.fresh;
+          others = others;
+        };
+        count = let a = length-map outs (λ out. out.replies) in let b = length-map rows replies in let c = ap (λ (l : List (List LaneReply)). length l) outs_are in omega (arith, a, b, c, count);
+        told = λ k out at.
+            let row = other_at (λ (o : LaneOut). o.replies) replies outs rows k out outs_are at in
+            subst (λ (rs : List LaneReply). LaneTold last now (lane_seat first k) (made_by seat_of (lane_seat first k) last.history) (commands_at lanes k) rs) row.2 (told_at k row.0 row.1);
+        end = λ is k out at.
+            let row = other_at (λ (o : LaneOut). o.replies) replies outs rows k out outs_are at in
+            subst (λ (rs : List LaneReply). Ended (commands_at lanes k) rs) row.2 ((ran k row.0 row.1).1.end (each is k row.0 row.1));
+      }
+
+-- the book that came out has the moment of the block
+pub at_moment : (first : Standing) (st : Option ℕ → Standing) → ((m : Option ℕ) → (st m).key.moment ≡ m) → (v w : SeatView) (seats : List SeatView) (n now : ℕ) → Starts first v → w ≡ has_next v n
+    → first.key.moment ≡ Some now → (m : Option ℕ) × Closed first w seats (st m) → Closed first w seats (st (Some now))
+at_moment first st key v w seats n now starts root is closed =
+    let seen : w.seen.state ≡ first = ap (λ (z : SeatView). z.seen.state) root ∙ ap (λ (z : SeatView). z.seen.state) starts.root_is in
+    let same : closed.0 ≡ Some now = sym (key closed.0) ∙ (ap (λ (k : Key). k.moment) closed.1.first.key ∙ (ap (λ (s : Standing). s.key.moment) seen ∙ is)) in
+    subst (λ (m : Option ℕ). Closed first w seats (st m)) same closed.1
+
+pub moved_moment : (st : Option ℕ → Standing) (last : Standing) (m n : Option ℕ) → m ≡ n → IsBehind last (st m) → IsBehind last (st n)
+moved_moment st last m n same h = subst (λ (z : Option ℕ). IsBehind last (st z)) same h
+
+pub moved_rests : (st : Option ℕ → Standing) (now : ℕ) (m n : Option ℕ) → m ≡ n → Rests (st m) now → Rests (st n) now
+moved_rests st now m n same h = subst (λ (z : Option ℕ). Rests (st z) now) same h
+
+-- the steps behind the lanes
+module _ (first last final : Standing) (behind : IsBehind last final) where
+  pub has_behind : (count : ℕ) → HasLanes first last count → HasLanes first final count
+  has_behind count h = record {
+    later = Follows-chain final last first behind.later h.later;
+    legal = behind.legal;
+    fresh = h.fresh;
+    others = λ n where_is. behind.only n ∙ h.others n where_is;
+  }
+
+  pub block_behind : (now : ℕ) (lanes : List Lane) (outs : List LaneOut) (fed : Bool) → RanLanes first last now lanes outs fed → fed ≡ true → Rests final now → IsBlock first final now lanes outs
+  block_behind now lanes outs fed h is rests = record {
+    count = h.count;
+    each = λ k out at. record {
+      told =
+          let told = told_later now (lane_seat first k) (commands_at lanes k) last final (made_by seat_of (lane_seat first k) last.history) out.replies behind.later (h.told k out at) in
+          subst (λ (es : List Entry). LaneTold final now (lane_seat first k) es (commands_at lanes k) out.replies) (sym (behind.only (lane_seat first k))) told;
+      end = h.end is k out at;
+    };
+    rests = rests;
+  }
+
+-- nothing was done
+pub has_none : (first : Standing) (count : ℕ) → Legal first.key.rules first.history → HasLanes first first count
+has_none first count legal = record {
+  later = Follows-itself first;
+  legal = legal;
+  fresh = fresh_from first.key.rules first.history;
+  others = λ n where_is. refl;
+}
