@@ -227,10 +227,10 @@ impl<G: GraphStore + Send, R: Rig + Send> Service<G, R> {
 /// says `now`, and tells the gate of each accepted call. Behind them it makes the steps that are left, one after the
 /// other. There are no workers beside the lanes yet: no step is made while a lane runs.
 ///
-/// The history that comes out is a legal one, whatever the order of the lanes: an entry that was added is a step, or
-/// that of an accepted call of one lane, which stands there once. A lane ends at its end, or at a call that wanted
-/// memory. An `Err` is want of memory for the block, for a payload that was asked for or for a step; the book then has
-/// what the lanes did so far.
+/// The history that comes out is a legal one, whatever the order of the lanes: an entry that was added is a step, or has
+/// the number of the seat of one lane. With `Ok` these are the entries of that lane's accepted calls, each once and in
+/// their order. A lane ends at its end, or at a call that wanted memory. An `Err` is want of memory for the block, for a
+/// payload that was asked for or for a step; the book then has what the lanes did so far, and their replies are lost.
 pub fn run_lanes<W: Threads + Wait + Sync, G: GraphStore + Send, R: Rig + Send, Q: Gate + Sync>(
     rt: &W,
     alloc: Global,
