@@ -8,8 +8,6 @@ mod choices;
 #[cfg(test)]
 mod drive;
 #[cfg(test)]
-mod limits;
-#[cfg(test)]
 mod loads;
 #[cfg(test)]
 mod openings;
