@@ -22,6 +22,36 @@ edge holds album photo refcount
 edge uses user session deep
 script
 """
+# A script that makes every kind of entry.
+EVERY_KIND = b"""create 1 user "a"
+create 5 album "x"
+create 3 photo "p"
+create 4 photo
+link holds 5 3 "h"
+link owns 1 4 "o"
+link likes 1 4
+update 1 "bb"
+update 4 "cc"
+unlink holds 5 3 job 41
+create 7 session "s"
+link uses 1 7 "u"
+delete 1 job 40
+work 3
+create 3 photo "q"
+work 100
+restore 41
+work 1
+restore 40
+work 100
+tick 61
+work 100
+restore expiry 7
+delete 1 job 42
+work 100
+tick 101
+work 100
+jobs
+"""
 if len(sys.argv) < 2 or not os.access(sys.argv[1], os.X_OK):
     print(f"usage: {SCRIPT} DELF ..", file=sys.stderr)
     sys.exit(2)
