@@ -1,0 +1,114 @@
+"""random_scripts.py DELF [ROUNDS] [SEED]: random scripts in several runs over one store, with faults, crashes and clocks that jump, against the small model.
+
+Run it as `python3 checks/random_scripts.py crates/delf/out/delf 300`. Each round has a random schema and some runs; text, status and,
+after status 0, every byte of both areas are compared, and after status 6 every byte too.
+"""
+import random
+import sys
+
+import store
+from program import empty, end, ok, run, wrong
+
+ROUNDS = int(sys.argv[2]) if len(sys.argv) > 2 else 200
+SEED = int(sys.argv[3]) if len(sys.argv) > 3 else 1
+
+
+def schema_of(dice):
+    """A checked schema: some types, and edges between any two of them."""
+    while True:
+        rules = [dice.choice(["directly", "directly_only", "by_any", "by_any", "short_ttl %d" % dice.randint(1, 30), "not_deleted", "directly"]) for _ in range(dice.randint(1, 5))]
+        lines = ["object t%d %s" % row for row in enumerate(rules)]
+        for edge in range(dice.randint(1, 8)):
+            lines.append("edge e%d t%d t%d %s" % (edge, dice.randrange(len(rules)), dice.randrange(len(rules)), dice.choice(["deep", "deep", "shallow", "refcount", "refcount"])))
+        text = "schema 1\nwindow %d\n%s\nscript\n" % (dice.choice([0, 5, 40, 1000]), "\n".join(lines))
+        try:
+            schema, _ = store.read_document(text.encode())
+        except Exception:
+            continue
+        return text, schema
+
+
+def payload_of(dice):
+    if dice.random() < 0.5:
+        return ""
+    size = dice.choice([0, 1, 3, 20, 512, 513])
+    return ' "%s"' % "".join(dice.choice(["a", "\\x00", "\\xfF", '\\"', "\\\\", "z", " "]) for _ in range(size))
+
+
+def script_of(dice, schema, length):
+    types, edges = len(schema.objects), len(schema.edges)
+    ids = dice.choice([4, 8, 12])
+    lines = []
+    for _ in range(length):
+        id = lambda: dice.randint(1, ids)
+        job = lambda: dice.randint(1, 8)
+        edge = dice.randrange(edges)
+        # Mostly ends of the right types: an id has its type by its number.
+        ends = [id(), id()]
+        if dice.random() < 0.8:
+            kinds = [schema.kind(schema.edges[edge][side]) for side in (1, 2)]
+            ends = [dice.choice([one for one in range(1, ids + 1) if one % types == kind] or [id()]) for kind in kinds]
+        kind = dice.choices(
+            ["create", "update", "link", "unlink", "delete", "restore", "expiry", "work", "tick", "get", "show", "job", "jobs", "fail", "crash", "report"],
+            [14, 4, 14, 4, 5, 4, 2, 10, 4, 1, 1, 2, 1, 1, 1, 1],
+        )[0]
+        one = id()
+        lines.append({
+            "create": "create %d t%d%s" % (one, one % types if dice.random() < 0.9 else dice.randrange(types), payload_of(dice)),
+            "update": "update %d%s" % (one, payload_of(dice) or ' ""'), "link": "link e%d %d %d%s" % (edge, *ends, payload_of(dice)),
+            "unlink": "unlink e%d %d %d job %d" % (edge, *ends, job()), "delete": "delete %d job %d" % (one, job()), "restore": "restore %d" % job(),
+            "expiry": dice.choice(["restore", "job"]) + " expiry %d" % one, "work": "work %d" % dice.choice([1, 2, 3, 5, 100]), "tick": "tick %d" % dice.choice([1, 3, 10, 50, 2000]),
+            "get": "get %d" % one, "show": "show", "job": "job %d" % job(), "jobs": "jobs", "fail": "fail %d" % dice.randint(1, 40), "crash": "crash %d" % dice.randrange(2**64), "report": "report",
+        }[kind])
+    return lines
+
+
+def made(document, areas, moment):
+    """As store.expects, and the areas also after status 6. None where a fault came into a command whose disk calls no page counts."""
+    schema, commands = store.read_document(document)
+    meaning = store.Run(schema, store.Disk(*areas), moment)
+    meaning.open()
+    for command in commands:
+        if command[0] in ("show", "get", "report") and meaning.disk.left is not None:
+            return None
+        meaning.make(command)
+    if meaning.disk.left is not None:
+        return None
+    if not meaning.down:
+        meaning.disk.settle()
+    text = "".join(line + "\n" for line in meaning.lines)
+    return text, 6 if meaning.down else 0, tuple(bytes(meaning.disk.data[area]) for area in ("journal", "vault"))
+
+
+runs = skipped = 0
+for round_ in range(ROUNDS):
+    dice = random.Random(SEED * 1_000_003 + round_)
+    text, schema = schema_of(dice)
+    areas = b"", b""
+    moment = dice.randint(0, 50)
+    for _ in range(dice.randint(1, 4)):
+        for attempt in range(20):
+            document = (text + "\n".join(script_of(dice, schema, dice.choice([5, 30, 80]))) + "\n").encode()
+            wanted = made(document, areas, moment)
+            if wanted is not None:
+                break
+        else:
+            skipped += 1
+            break
+        folder = empty()
+        if areas[0]:
+            store.save(folder, *areas)
+        came = (*run(folder, document, ("run", "--at", str(moment))), store.load(folder))
+        runs += 1
+        if came != wanted:
+            lines = zip(came[0].splitlines() + ["-"], wanted[0].splitlines() + ["-"])
+            differs = next((pair for pair in lines if pair[0] != pair[1]), None)
+            path = f"/tmp/deviation-{SEED}-{round_}"
+            with open(path, "wb") as file:
+                file.write(document)
+            wrong(f"round {round_}, at {moment}, the document in {path}", (differs, came[1], came[2] == wanted[2]), wanted[1])
+            break
+        areas = wanted[2]
+        moment = max(0, moment + dice.choice([0, 1, 10, 100, -5, -1000]))
+ok(f"{runs} runs in {ROUNDS} rounds, {skipped} left out")
+end()
