@@ -133,7 +133,57 @@ def one_id(n):
     ]
 
 
-GRAPHS = [star, pointed_at, chain, clique, photos, impostors, jobs, expiries, updates, one_id]
+def scattered(n):
+    """A star whose leaves come in no order, and go by steps of one command each."""
+    n = n * 3 // 8
+    leaves = [2 + at * 7919 % n for at in range(n)] if n % 7919 else list(range(n + 1, 1, -1))
+    make = nodes([n + 2]) + nodes(leaves) + links(b"r0", ((n + 2, leaf) for leaf in leaves)) + links(b"r1", ((leaf, n + 2) for leaf in leaves[: n // 2]))
+    rows = 2 * n + n // 2 + 1
+    return [
+        ("make", make, [f"{rows - 1} linked r1 "]), ("update", b"".join(b'update %d "u"\n' % leaf for leaf in leaves[::2]), [f"{rows - 1 + (n + 1) // 2} updated "]),
+        ("delete", b"delete %d job 1\n" % (n + 2) + b"work 1\n" * rows, ["work 1"]), ("restore", b"restore 1\n" + b"work 1\n" * rows + b"work 1\n", ["work 1", "work 0 idle"]),
+        ("get", b"".join(b"get %d\n" % leaf for leaf in leaves), ["at "]),
+    ]
+
+
+def unlinks(n):
+    """Each edge into a hub is taken away; the last one starts a job."""
+    n = n // 2
+    ids = range(2, n + 2)
+    make = nodes([1, *ids]) + links(b"r0", ((id, 1) for id in ids))
+    return [
+        ("make", make, [f"{2 * n} linked r0 {n + 1} 1"]), ("unlink", b"".join(b"unlink r0 %d 1 job 7\n" % id for id in ids) + WORK, ["work 1 idle"]),
+        ("refused", b"".join(b"unlink r0 %d 1 job 7\n" % id for id in ids), [f"refused 3 at {3 * n + 2} absent 1"]),
+    ]
+
+
+def waves(n):
+    """Sessions whose dues are a second apart go one by one, and so do their windows."""
+    n = n // 5
+    make = b"".join(b"create %d session\ntick 1\n" % (id * 7919 % 1_000_003) for id in range(1, n + 1))
+    again = b"".join(b"tick 1\nwork 1\nwork 9\n" for _ in range(n))
+    make_at = b"".join(b"create %d session\n" % id for id in range(2_000_000, 2_000_000 + n))
+    return [
+        ("make", make, [f"{n - 1} created "]), ("idle", b"work 9\n" * n, ["work 0 idle"]), ("expire", b"tick 60\n" + again, ["work 0 idle"]),
+        ("purge", b"tick %d\n" % (n + 161) + b"work 1\n" * n + WORK, ["work 0 idle"]), ("make again", make_at, [f"{5 * n - 1} created "]),
+    ]
+
+
+def restores(n):
+    """Many jobs of some rows are restored at once, and stand in the way of each other."""
+    n = n // 10
+    ids = range(1, 2 * n + 1, 2)
+    make = b"".join(b"create %d node\ncreate %d photo\nlink owns %d %d\n" % (id, id + 1, id, id + 1) for id in ids)
+    deletes = b"".join(b"delete %d job %d\n" % (id, id) for id in ids)
+    again = nodes(ids)
+    back = b"".join(b"restore %d\n" % id for id in reversed(ids))
+    return [
+        ("make", make, [f"{3 * n - 1} linked owns "]), ("delete", deletes + WORK, [f"work {3 * n} idle"]), ("take", again, [f"{8 * n - 1} created "]),
+        ("call", back, [f"{9 * n - 1} restoring 1 items 3"]), ("open", b"jobs\n", [f"jobs {n}"]), ("restore", WORK, [f"work {3 * n} idle"]), ("report", b"report\n", ["{"]),
+    ]
+
+
+GRAPHS = [scattered, unlinks, waves, restores, star, pointed_at, chain, clique, photos, impostors, jobs, expiries, updates, one_id]
 named = [word for word in sys.argv[2:] if word != "full"]
 for graph in GRAPHS:
     if named and graph.__name__ not in named:

@@ -103,7 +103,7 @@ def run(folder, document, words=("run", "--at", "0"), memory=None, seconds=60, *
         )
     except subprocess.TimeoutExpired:
         return "", None
-    if done.stderr:
+    if done.stderr and not more.get("loads"):
         wrong("standard error", done.stderr, b"")
     return done.stdout.decode("latin-1"), done.returncode
 

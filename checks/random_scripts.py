@@ -7,6 +7,7 @@ import random
 import sys
 
 import store
+from meaning import Fault
 from program import empty, end, ok, run, wrong
 
 ROUNDS = int(sys.argv[2]) if len(sys.argv) > 2 else 200
@@ -23,9 +24,31 @@ def schema_of(dice):
         text = "schema 1\nwindow %d\n%s\nscript\n" % (dice.choice([0, 5, 40, 1000]), "\n".join(lines))
         try:
             schema, _ = store.read_document(text.encode())
-        except Exception:
+        except Fault:
             continue
         return text, schema
+
+
+def changed_in(dice, text):
+    """The same schema with a line more or less, or two lines swapped, where that is a checked one."""
+    lines = text.splitlines()
+    for _ in range(50):
+        new = list(lines)
+        at, other = (dice.randrange(2, len(lines) - 1) for _ in range(2))
+        how = dice.randrange(3)
+        if how == 0:
+            del new[at]
+        elif how == 1:
+            new.insert(at, "object n%d directly" % dice.randrange(99))
+        else:
+            new[at], new[other] = new[other], new[at]
+        try:
+            schema, _ = store.read_document(("\n".join(new) + "\n").encode())
+        except Fault:
+            continue
+        if schema.objects and schema.edges:
+            return "\n".join(new) + "\n", schema
+    return text, store.read_document(text.encode())[0]
 
 
 def payload_of(dice):
@@ -35,13 +58,21 @@ def payload_of(dice):
     return ' "%s"' % "".join(dice.choice(["a", "\\x00", "\\xfF", '\\"', "\\\\", "z", " "]) for _ in range(size))
 
 
-def script_of(dice, schema, length):
+def script_of(dice, schema, length, names):
+    """Some commands. The names of jobs are mostly new ones, and mostly those that a job may have are restored."""
     types, edges = len(schema.objects), len(schema.edges)
     ids = dice.choice([4, 8, 12])
     lines = []
+    roots = [one for one in range(1, ids + 1) if schema.objects[one % types][1].startswith("directly")] or [1]
+
+    def new_name():
+        if not names or dice.random() < 0.85:
+            names.append(len(names) + 1)
+        return dice.choice(names[-2:])
+
     for _ in range(length):
         id = lambda: dice.randint(1, ids)
-        job = lambda: dice.randint(1, 8)
+        job = lambda: dice.choice(names[-4:] or [1])
         edge = dice.randrange(edges)
         # Mostly ends of the right types: an id has its type by its number.
         ends = [id(), id()]
@@ -50,14 +81,15 @@ def script_of(dice, schema, length):
             ends = [dice.choice([one for one in range(1, ids + 1) if one % types == kind] or [id()]) for kind in kinds]
         kind = dice.choices(
             ["create", "update", "link", "unlink", "delete", "restore", "expiry", "work", "tick", "get", "show", "job", "jobs", "fail", "crash", "report"],
-            [14, 4, 14, 4, 5, 4, 2, 10, 4, 1, 1, 2, 1, 1, 1, 1],
+            [20, 4, 20, 4, 6, 6, 2, 12, 2, 1, 1, 3, 1, 0.5, 0.5, 0.5],
         )[0]
         one = id()
         lines.append({
-            "create": "create %d t%d%s" % (one, one % types if dice.random() < 0.9 else dice.randrange(types), payload_of(dice)),
-            "update": "update %d%s" % (one, payload_of(dice) or ' ""'), "link": "link e%d %d %d%s" % (edge, *ends, payload_of(dice)),
-            "unlink": "unlink e%d %d %d job %d" % (edge, *ends, job()), "delete": "delete %d job %d" % (one, job()), "restore": "restore %d" % job(),
-            "expiry": dice.choice(["restore", "job"]) + " expiry %d" % one, "work": "work %d" % dice.choice([1, 2, 3, 5, 100]), "tick": "tick %d" % dice.choice([1, 3, 10, 50, 2000]),
+            "create": "create %d %s%s" % (one, schema.objects[one % types if dice.random() < 0.9 else dice.randrange(types)][0], payload_of(dice)),
+            "update": "update %d%s" % (one, payload_of(dice) or ' ""'), "link": "link %s %d %d%s" % (schema.edges[edge][0], *ends, payload_of(dice)),
+            "unlink": "unlink %s %d %d job %d" % (schema.edges[edge][0], *ends, new_name()) if kind == "unlink" else "",
+            "delete": "delete %d job %d" % (dice.choice(roots) if dice.random() < 0.9 else one, new_name()) if kind == "delete" else "", "restore": "restore %d" % job(),
+            "expiry": dice.choice(["restore", "job"]) + " expiry %d" % one, "work": "work %d" % dice.choice([1, 2, 3, 5, 100]), "tick": "tick %d" % dice.choice([1, 1, 3, 10, 50, 2000]),
             "get": "get %d" % one, "show": "show", "job": "job %d" % job(), "jobs": "jobs", "fail": "fail %d" % dice.randint(1, 40), "crash": "crash %d" % dice.randrange(2**64), "report": "report",
         }[kind])
     return lines
@@ -67,7 +99,10 @@ def made(document, areas, moment):
     """As store.expects, and the areas also after status 6. None where a fault came into a command whose disk calls no page counts."""
     schema, commands = store.read_document(document)
     meaning = store.Run(schema, store.Disk(*areas), moment)
-    meaning.open()
+    try:
+        meaning.open()
+    except store.Bad as bad:
+        return "bad store {} at {}\n".format(*bad.args), 7, areas
     for command in commands:
         if command[0] in ("show", "get", "report") and meaning.disk.left is not None:
             return None
@@ -86,9 +121,13 @@ for round_ in range(ROUNDS):
     text, schema = schema_of(dice)
     areas = b"", b""
     moment = dice.randint(0, 50)
+    names = []
     for _ in range(dice.randint(1, 4)):
+        # Now and then a run reads the store under another schema.
+        if areas[0] and dice.random() < 0.15:
+            text, schema = schema_of(dice) if dice.random() < 0.5 else changed_in(dice, text)
         for attempt in range(20):
-            document = (text + "\n".join(script_of(dice, schema, dice.choice([5, 30, 80]))) + "\n").encode()
+            document = (text + "\n".join(script_of(dice, schema, dice.choice([5, 30, 80, 200]), names)) + "\n").encode()
             wanted = made(document, areas, moment)
             if wanted is not None:
                 break
