@@ -4,11 +4,11 @@ Run it as `python3 checks/documents.py crates/delf/out/delf`. Each byte at each 
 numbers at and past each limit go through `check` and are compared with the small reader of documents. Then come documents of
 16 MiB, whose time is taken at half and at the whole size. With `all` every byte is tried at every place.
 """
+import random
 import sys
-import time
 
 import meaning
-from program import empty, end, ok, run, wrong
+from program import empty, end, ok, processor_time, run, wrong
 
 FOLDER = empty()
 MEMORY = 1 << 30
@@ -141,6 +141,20 @@ for document in (
     agrees("the order of faults", document)
 ok(f"{len(LIMITS)} numbers, names, counts and payloads at and past their limits; the order of the faults")
 
+# Lines of words in no order, near to what fits.
+dice = random.Random(5)
+WORDS = [form.encode() for form in " ".join(meaning.COMMANDS).split()] + b"""0 1 7 01 +1 -1 999999999999 1000000000000 4294967295 4294967296 user photo video owns seen nix USER us-er "" "a" "a
+"\\x4g" "a"b a"b # #x job expiry object edge directly by_any short_ttl deep shallow refcount schema script window par lane end workers turns quiet""".split()
+for _ in range(20000 if "all" in sys.argv else 1500):
+    form = dice.choice(list(meaning.COMMANDS) + ["object T short_ttl N", "edge T T T deep", "par workers N turns N"]).split()
+    words = []
+    for part in form:
+        usual = {"N": [b"1", b"7", b"0"], "T": [b"user", b"owns", b"photo"], "P": [b'"a"', b'"a b"']}.get(part, [part.encode()])
+        words += [dice.choice(usual)] if dice.random() < 0.85 else [dice.choice(WORDS)] if dice.random() < 0.8 else dice.sample(WORDS, 2)
+    line = dice.choice([b" ", b" ", b"\t", b"  "]).join(words) + dice.choice([b"", b"", b" ", b"\r", b"\t\t", b" #"])
+    agrees("words in no order", dice.choice([HEAD + b"script\n", HEAD]) + line + dice.choice([b"", b"\n", b"\nshow\n"]))
+ok("lines of words in no order")
+
 # Very large documents. The time at the whole size is at most three times that at half of it, beyond a tenth of a second.
 FULL = 16_777_216
 start = HEAD + b"script\n"
@@ -159,9 +173,9 @@ def large(front, part, size):
 
 
 def time_of(case, document, wanted):
-    begun = time.monotonic()
+    begun = processor_time()
     came = run(FOLDER, document, ["check"], MEMORY, 120)
-    took = time.monotonic() - begun
+    took = processor_time() - begun
     if came[0][:300] != wanted[0][:300] or came[1] != wanted[1]:
         wrong(case, (came[0][:100], came[1]), wanted)
     return took

@@ -5,11 +5,10 @@ twice that size; the processor time of each run may at most treble. With `full` 
 is in memory where /dev/shm is there; else the syncs are shut off by a library that is compiled into a temporary folder.
 """
 import os
-import resource
 import subprocess
 import sys
 
-from program import FOLDER, empty, end, ok, run, wrong
+from program import FOLDER, empty, end, ok, processor_time, run, wrong
 
 SIZE = 100_000 if "full" in sys.argv else 20_000
 KINDS = [b"r%d" % i for i in range(10)]
@@ -95,7 +94,7 @@ def impostors(n):
     again = b"".join(b"create %d photo\n" % id for id in ids)
     return [
         ("make and delete", make + b"delete 1 job 1\n" + WORK, [f"work {rows} idle"]), ("take each id", again, [f"{2 * rows + n} created {n + 1}"]),
-        ("restore", b"restore 1\n" + WORK, [f"work {rows} idle"]), ("job", b"job 1\n", [f"job 1 start {rows} root 1 restored put 1 listed {2 * n}"]),
+        ("restore", b"restore 1\n" + WORK, [f"work {rows} idle"]), ("job", b"job 1\n" * 4, [f"job 1 start {rows} root 1 restored put 1 listed {2 * n}"]),
     ]
 
 
@@ -193,11 +192,12 @@ for graph in GRAPHS:
         folder = empty()
         times.append({})
         for phase, script, wanted in graph(n):
-            before = resource.getrusage(resource.RUSAGE_CHILDREN)
+            begun = processor_time()
             text, status = run(folder, HEAD + script, seconds=500, env=environment)
-            after = resource.getrusage(resource.RUSAGE_CHILDREN)
-            times[-1][phase] = after.ru_utime + after.ru_stime - before.ru_utime - before.ru_stime
-            if status != 0 or not any(line.startswith(wanted[0]) for line in (text.splitlines()[:1] + text.splitlines()[-1:] if phase != "restore" else text.splitlines()[-2:])):
+            times[-1][phase] = processor_time() - begun
+            lines = text.splitlines()
+            ends = lines[:1] + lines[-1:] if phase != "restore" else lines[-2:]
+            if status != 0 or not any(line.startswith(wanted[0]) for line in ends):
                 wrong(f"{graph.__name__} of {n}, {phase}", (text[:100], text[-100:], status), wanted)
     for phase, time in times[1].items():
         if time > 3 * times[0][phase] + 0.1:

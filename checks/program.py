@@ -108,6 +108,12 @@ def run(folder, document, words=("run", "--at", "0"), memory=None, seconds=60, *
     return done.stdout.decode("latin-1"), done.returncode
 
 
+def processor_time():
+    """The processor seconds of all runs so far, which other programs on the machine do not disturb much."""
+    used = resource.getrusage(resource.RUSAGE_CHILDREN)
+    return used.ru_utime + used.ru_stime
+
+
 def agrees(case, document, journal=b"", vault=b"", moment=0, memory=None):
     """Runs a document over these areas and compares text, status and areas with the meaning. The areas that it leaves."""
     folder = empty()

@@ -7,7 +7,7 @@ import random
 import sys
 
 import store
-from meaning import Fault
+from meaning import GREATEST, Fault
 from program import empty, end, ok, run, wrong
 
 ROUNDS = int(sys.argv[2]) if len(sys.argv) > 2 else 200
@@ -61,7 +61,8 @@ def payload_of(dice):
 def script_of(dice, schema, length, names):
     """Some commands. The names of jobs are mostly new ones, and mostly those that a job may have are restored."""
     types, edges = len(schema.objects), len(schema.edges)
-    ids = dice.choice([4, 8, 12])
+    ids = dice.choice([4, 8, 12, 12, 12, 700])
+    scale = dice.choice([1, 1, 1, 64, 257, GREATEST // ids])
     lines = []
     roots = [one for one in range(1, ids + 1) if schema.objects[one % types][1].startswith("directly")] or [1]
 
@@ -69,6 +70,12 @@ def script_of(dice, schema, length, names):
         if not names or dice.random() < 0.85:
             names.append(len(names) + 1)
         return dice.choice(names[-2:])
+
+    # A large graph begins with its objects, in no order.
+    if ids > 12:
+        for one in dice.sample(range(1, ids + 1), ids):
+            lines.append("create %d %s" % (one * scale, schema.objects[one % types][0]))
+        length *= 5
 
     for _ in range(length):
         id = lambda: dice.randint(1, ids)
@@ -85,12 +92,12 @@ def script_of(dice, schema, length, names):
         )[0]
         one = id()
         lines.append({
-            "create": "create %d %s%s" % (one, schema.objects[one % types if dice.random() < 0.9 else dice.randrange(types)][0], payload_of(dice)),
-            "update": "update %d%s" % (one, payload_of(dice) or ' ""'), "link": "link %s %d %d%s" % (schema.edges[edge][0], *ends, payload_of(dice)),
-            "unlink": "unlink %s %d %d job %d" % (schema.edges[edge][0], *ends, new_name()) if kind == "unlink" else "",
-            "delete": "delete %d job %d" % (dice.choice(roots) if dice.random() < 0.9 else one, new_name()) if kind == "delete" else "", "restore": "restore %d" % job(),
-            "expiry": dice.choice(["restore", "job"]) + " expiry %d" % one, "work": "work %d" % dice.choice([1, 2, 3, 5, 100]), "tick": "tick %d" % dice.choice([1, 1, 3, 10, 50, 2000]),
-            "get": "get %d" % one, "show": "show", "job": "job %d" % job(), "jobs": "jobs", "fail": "fail %d" % dice.randint(1, 40), "crash": "crash %d" % dice.randrange(2**64), "report": "report",
+            "create": "create %d %s%s" % (one * scale, schema.objects[one % types if dice.random() < 0.9 else dice.randrange(types)][0], payload_of(dice)),
+            "update": "update %d%s" % (one * scale, payload_of(dice) or ' ""'), "link": "link %s %d %d%s" % (schema.edges[edge][0], *(end * scale for end in ends), payload_of(dice)),
+            "unlink": "unlink %s %d %d job %d" % (schema.edges[edge][0], *(end * scale for end in ends), new_name()) if kind == "unlink" else "",
+            "delete": "delete %d job %d" % ((dice.choice(roots) if dice.random() < 0.9 else one) * scale, new_name()) if kind == "delete" else "", "restore": "restore %d" % job(),
+            "expiry": dice.choice(["restore", "job"]) + " expiry %d" % (one * scale), "work": "work %d" % dice.choice([1, 2, 3, 5, 100]), "tick": "tick %d" % dice.choice([1, 1, 3, 10, 50, 2000]),
+            "get": "get %d" % (one * scale), "show": "show", "job": "job %d" % job(), "jobs": "jobs", "fail": "fail %d" % dice.randint(1, 40), "crash": "crash %d" % dice.randrange(2**64), "report": "report",
         }[kind])
     return lines
 
