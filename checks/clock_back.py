@@ -24,7 +24,8 @@ if (first, second) != (("0 created 7\n", 0), ("1 created 8\nwork 0 idle\n", 0)):
     wrong("the clock goes back by two seconds", (first, second), "both dues are 65, and the moment is 64")
 ok("the clock goes back by two seconds: nothing expires early")
 
-runs("dues", (5, b"create 7 session\n"), (3, b"create 8 session\ntick 61\nwork 10\n"), (64, b"work 10\n"), (65, b"work 10\njobs\n"), (0, b"restore expiry 7\nwork 1\njobs\nshow\n"))
+runs("dues", (5, b"create 7 session\n"), (3, b"create 8 session\ntick 61\nwork 10\n"),
+     (64, b"work 10\n"), (65, b"work 10\njobs\n"), (0, b"restore expiry 7\nwork 1\njobs\nshow\n"))
 runs("a window", (1000, b"create 1 user\ndelete 1 job 1\nwork 9\n"), (0, b"tick 100\nwork 9\n"), (1101, b"work 9\njob 1\n"), (0, b"restore 1\njob 1\n"))
 runs("a window that is still open", (1000, b"create 1 user\ndelete 1 job 1\nwork 9\n"), (0, b"restore 1\nwork 9\nshow\n"))
 runs("a far moment", (999_999_999_999, b"create 7 session\ntick 999999999999\nwork 9\n"), (0, b"create 8 session\nwork 9\ntick 1\nwork 9\njobs\n"))
@@ -45,8 +46,9 @@ if (text, status) != ("1 created 8\nwork 0 idle\n", 0) or moments != [9000000000
     wrong("a store from the future", (text, status, moments), 900000000000)
 ok("the system's clock, and a store from the future")
 
-for words in (["run", "--at", "1000000000000"], ["run", "--at", "01"], ["run", "--at", ""], ["run", "--at=-1"], ["run", "--at="], ["run", "--at", "1", "2"], ["run", "--at", "1e3"], ["run", "--At", "1"],
-              ["RUN"], ["run "], ["check", "x"], ["load", "20001"], ["load", "7"], ["load", "08"], ["load", "4294967304"], ["load", "18446744073709551624"], ["load", "9" * 5000], ["load"], ["--help"], [], [""],
+for words in (["run", "--at", "1000000000000"], ["run", "--at", "01"], ["run", "--at", ""], ["run", "--at=-1"], ["run", "--at="], ["run", "--at", "1", "2"],
+              ["run", "--at", "1e3"], ["run", "--At", "1"], ["RUN"], ["run "], ["check", "x"], ["load", "20001"], ["load", "7"], ["load", "08"], ["load", "4294967304"], ["load", "18446744073709551624"],
+              ["load", "9" * 5000], ["load"], ["--help"], [], [""],
               ["run", "--at", "9" * 100_000], [b"run\xff"], ["run", b"--at", b"\xff1"], ["run", "--at", " 1"], ["run", "--at", "1\n"], ["run", "--at=1 "], ["run", "--at", "\u0661"]):
     folder = empty()
     came = run(folder, SCHEMA + b"create 7 session\n", words)

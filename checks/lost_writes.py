@@ -10,7 +10,7 @@ import subprocess
 import sys
 
 import store
-from program import DELF, EVERY_KIND, FOLDER, SCHEMA, agrees, empty, end, ok, run, wrong
+from program import EVERY_KIND, FOLDER, SCHEMA, agrees, empty, end, ok, run, wrong
 
 library = os.path.join(FOLDER, "lost_writes.so")
 here = os.path.dirname(os.path.abspath(__file__))

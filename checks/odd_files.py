@@ -10,7 +10,7 @@ import subprocess
 import time
 
 import store
-from program import DELF, EVERY_KIND, FOLDER, SCHEMA, agrees, empty, end, ok, run, wrong
+from program import DELF, EVERY_KIND, FOLDER, SCHEMA, empty, end, ok, run, wrong
 
 LOOK = SCHEMA + b"show\n"
 DOWN = "down at 0\n", 6

@@ -17,10 +17,12 @@ SEED = int(sys.argv[3]) if len(sys.argv) > 3 else 1
 def schema_of(dice):
     """A checked schema: some types, and edges between any two of them."""
     while True:
-        rules = [dice.choice(["directly", "directly_only", "by_any", "by_any", "short_ttl %d" % dice.randint(1, 30), "not_deleted", "directly"]) for _ in range(dice.randint(1, 5))]
+        rules = [dice.choice(["directly", "directly_only", "by_any", "by_any", "short_ttl %d" % dice.randint(1, 30),
+                              "not_deleted", "directly"]) for _ in range(dice.randint(1, 5))]
         lines = ["object t%d %s" % row for row in enumerate(rules)]
         for edge in range(dice.randint(1, 8)):
-            lines.append("edge e%d t%d t%d %s" % (edge, dice.randrange(len(rules)), dice.randrange(len(rules)), dice.choice(["deep", "deep", "shallow", "refcount", "refcount"])))
+            lines.append("edge e%d t%d t%d %s" % (edge, dice.randrange(len(rules)), dice.randrange(len(rules)),
+                                                   dice.choice(["deep", "deep", "shallow", "refcount", "refcount"])))
         text = "schema 1\nwindow %d\n%s\nscript\n" % (dice.choice([0, 5, 40, 1000]), "\n".join(lines))
         try:
             schema, _ = store.read_document(text.encode())
@@ -93,11 +95,21 @@ def script_of(dice, schema, length, names):
         one = id()
         lines.append({
             "create": "create %d %s%s" % (one * scale, schema.objects[one % types if dice.random() < 0.9 else dice.randrange(types)][0], payload_of(dice)),
-            "update": "update %d%s" % (one * scale, payload_of(dice) or ' ""'), "link": "link %s %d %d%s" % (schema.edges[edge][0], *(end * scale for end in ends), payload_of(dice)),
+            "update": "update %d%s" % (one * scale, payload_of(dice) or ' ""'),
+            "link": "link %s %d %d%s" % (schema.edges[edge][0], *(end * scale for end in ends), payload_of(dice)),
             "unlink": "unlink %s %d %d job %d" % (schema.edges[edge][0], *(end * scale for end in ends), new_name()) if kind == "unlink" else "",
-            "delete": "delete %d job %d" % ((dice.choice(roots) if dice.random() < 0.9 else one) * scale, new_name()) if kind == "delete" else "", "restore": "restore %d" % job(),
-            "expiry": dice.choice(["restore", "job"]) + " expiry %d" % (one * scale), "work": "work %d" % dice.choice([1, 2, 3, 5, 100]), "tick": "tick %d" % dice.choice([1, 1, 3, 10, 50, 2000]),
-            "get": "get %d" % (one * scale), "show": "show", "job": "job %d" % job(), "jobs": "jobs", "fail": "fail %d" % dice.randint(1, 40), "crash": "crash %d" % dice.randrange(2**64), "report": "report",
+            "delete": "delete %d job %d" % ((dice.choice(roots) if dice.random() < 0.9 else one) * scale, new_name()) if kind == "delete" else "",
+            "restore": "restore %d" % job(),
+            "expiry": dice.choice(["restore", "job"]) + " expiry %d" % (one * scale),
+            "work": "work %d" % dice.choice([1, 2, 3, 5, 100]),
+            "tick": "tick %d" % dice.choice([1, 1, 3, 10, 50, 2000]),
+            "get": "get %d" % (one * scale),
+            "show": "show",
+            "job": "job %d" % job(),
+            "jobs": "jobs",
+            "fail": "fail %d" % dice.randint(1, 40),
+            "crash": "crash %d" % dice.randrange(2**64),
+            "report": "report",
         }[kind])
     return lines
 

@@ -38,8 +38,19 @@ if (len(journal), len(vault)) != (9 + N * 117, 9 + N * 69):
 
 # One row short of full: each kind of call that would pass the end is refused, and what stays below it is not.
 folder = empty()
-has("calls near the end", b"".join(b"create %d user\n" % id for id in range(1, N - 1)) + b"create %d photo\nlink likes 1 %d\nupdate 1 \"u\"\nupdate 1 \"v\"\nupdate 1 \"w\"\nlink likes 2 %d\ndelete 1 job 1\nwork 9\nrestore 1\nupdate 2 \"z\"\n" % (N - 1, N - 1, N - 1),
-    [f"{id - 1} created {id}" for id in range(1, N - 1)] + [f"{N - 2} created {N - 1}", f"{N - 1} linked likes 1 {N - 1}", f"{N} updated 1", f"{N + 1} updated 1", f"refused 15 at {N + 2} full {N + 2} {3 * (N - 1) + 1}",
+has("calls near the end", b"".join(b"create %d user\n" % id for id in range(1, N - 1)) + b"""create %d photo
+link likes 1 %d
+update 1 "u"
+update 1 "v"
+update 1 "w"
+link likes 2 %d
+delete 1 job 1
+work 9
+restore 1
+update 2 "z"
+""" % (N - 1, N - 1, N - 1),
+    [f"{id - 1} created {id}" for id in range(1, N - 1)] + [f"{N - 2} created {N - 1}", f"{N - 1} linked likes 1 {N - 1}", f"{N} updated 1", f"{N + 1} updated 1",
+     f"refused 15 at {N + 2} full {N + 2} {3 * (N - 1) + 1}",
      f"refused 15 at {N + 2} full {N + 2} {3 * (N - 1) + 1}", f"{N + 2} deleting 1 job 1", "work 2 idle",
      f"refused 15 at {N + 5} full {N + 5} {3 * (N - 2) + 1}", f"refused 15 at {N + 5} full {N + 5} {3 * (N - 2) + 1}"])
 end()
