@@ -155,6 +155,31 @@ for _ in range(20000 if "all" in sys.argv else 1500):
     agrees("words in no order", dice.choice([HEAD + b"script\n", HEAD]) + line + dice.choice([b"", b"\n", b"\nshow\n"]))
 ok("lines of words in no order")
 
+# What `check` prints of random schemas: the first broken rule, or the routes.
+checked = 0
+for _ in range(5000 if "all" in sys.argv else 500):
+    names = [b"t%d" % i for i in range(dice.randint(1, 9))]
+    rules = [dice.choice([b"by_any", b"by_any", b"by_any", b"directly", b"directly_only", b"short_ttl 5", b"not_deleted"]) for _ in names]
+    lines_ = [b"object %s %s" % pair for pair in zip(names, rules)]
+    for edge in range(dice.randint(1, 25)):
+        ends = dice.choice(names), dice.choice(names)
+        kind = dice.choice([b"deep", b"deep", b"shallow", b"refcount"])
+        if kind != b"shallow" and rules[names.index(ends[1])] in (b"directly_only", b"not_deleted") and dice.random() < 0.95:
+            kind = b"shallow"
+        lines_.append(b"edge e%d %s %s %s" % (edge, *ends, kind))
+    dice.shuffle(lines_)
+    document = b"schema 1\nwindow 0\n" + b"\n".join(lines_)
+    if fault_of(document) is not None:
+        agrees("a random schema", document)
+        continue
+    schema, _ = meaning.read_document(document)
+    wanted = f"checked {len(schema.objects)} types {len(schema.edges)} edges\n"
+    wanted += "".join(f"route {name} {' '.join(route)}\n" for name, route in meaning.routes(schema))
+    checked += 1
+    if run(FOLDER, document, ["check"]) != (wanted, 0):
+        wrong(f"routes of {document!r}", run(FOLDER, document, ["check"]), wanted)
+ok(f"random schemas, {checked} of them checked, with their routes")
+
 # Very large documents. The time at the whole size is at most three times that at half of it, beyond a tenth of a second.
 FULL = 16_777_216
 start = HEAD + b"script\n"

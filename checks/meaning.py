@@ -204,6 +204,20 @@ def check(schema):
             raise Fault(line, f"type {name} has no route")
 
 
+def routes(schema):
+    """The shortest route of each by_any type, from the type backwards; of several the one whose list of edge numbers is least."""
+    best = {row[0]: [] for row in schema.objects if row[1] in ("directly", "directly_only", "short_ttl")}
+    wanted = [row[0] for row in schema.objects if row[1] == "by_any"]
+    for _ in wanted:
+        for number, (_, source, target, rule, _) in enumerate(schema.edges):
+            if target not in wanted or rule == "shallow" or (rule == "deep" and source not in best):
+                continue
+            route = [number] + (best[source] if rule == "deep" else [])
+            if target not in best or (len(route), route) < (len(best[target]), best[target]):
+                best[target] = route
+    return [(name, [schema.edges[number][0] for number in best[name]]) for name in wanted]
+
+
 COMMANDS = {  # form: for each value its kind
     "create N T": "iK", "create N T P": "iKp", "update N P": "ip",
     "link T N N": "Eii", "link T N N P": "Eiip", "unlink T N N job N": "Eiij", "delete N job N": "ij",

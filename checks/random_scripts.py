@@ -18,9 +18,9 @@ def schema_of(dice):
     """A checked schema: some types, and edges between any two of them."""
     while True:
         rules = [dice.choice(["directly", "directly_only", "by_any", "by_any", "short_ttl %d" % dice.randint(1, 30),
-                              "not_deleted", "directly"]) for _ in range(dice.randint(1, 5))]
+                              "not_deleted", "directly"]) for _ in range(64 if dice.random() < 0.05 else dice.randint(1, 5))]
         lines = ["object t%d %s" % row for row in enumerate(rules)]
-        for edge in range(dice.randint(1, 8)):
+        for edge in range(256 if dice.random() < 0.1 else dice.randint(1, 8)):
             lines.append("edge e%d t%d t%d %s" % (edge, dice.randrange(len(rules)), dice.randrange(len(rules)),
                                                    dice.choice(["deep", "deep", "shallow", "refcount", "refcount"])))
         text = "schema 1\nwindow %d\n%s\nscript\n" % (dice.choice([0, 5, 40, 1000]), "\n".join(lines))
