@@ -63,7 +63,7 @@ def payload_of(dice):
 def script_of(dice, schema, length, names):
     """Some commands. The names of jobs are mostly new ones, and mostly those that a job may have are restored."""
     types, edges = len(schema.objects), len(schema.edges)
-    ids = dice.choice([4, 8, 12, 12, 12, 700])
+    ids = 700 if dice.random() < 0.02 else dice.choice([4, 8, 12])
     scale = dice.choice([1, 1, 1, 64, 257, GREATEST // ids])
     lines = []
     roots = [one for one in range(1, ids + 1) if schema.objects[one % types][1].startswith("directly")] or [1]
