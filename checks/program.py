@@ -3,6 +3,7 @@ import atexit
 import os
 import resource
 import shutil
+import signal
 import subprocess
 import sys
 import tempfile
@@ -58,6 +59,7 @@ if len(sys.argv) < 2 or not os.access(sys.argv[1], os.X_OK):
 DELF = os.path.realpath(sys.argv[1])
 FOLDER = tempfile.mkdtemp(dir="/dev/shm" if os.access("/dev/shm", os.W_OK) else None)
 atexit.register(shutil.rmtree, FOLDER, ignore_errors=True)
+signal.signal(signal.SIGTERM, lambda *_: sys.exit(1))
 found = 0
 
 
