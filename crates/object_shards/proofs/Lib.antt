@@ -4,4 +4,5 @@ pub mod Dues
 pub mod Parts
 pub mod Halves
 pub mod Moments
+pub mod Leasts
 pub mod Laws

@@ -1,3 +1,4 @@
 pub mod Rows
 pub mod Shards
+pub mod Blocks
 pub mod ObjectShards

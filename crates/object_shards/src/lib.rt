@@ -1,6 +1,7 @@
 //! The objects of the graph that the service keeps while it runs, in shards, so that no call but the copy of all rows scans them.
 #![tactic(auto)]
 
+mod blocks;
 mod object_shards;
 mod rows;
 mod shard;

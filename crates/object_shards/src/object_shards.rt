@@ -1,24 +1,30 @@
 //! The object rows of a graph in shards.
-ghost use Rattle.std.specs.Prelude.{◌≡◌, IsTrue};
+ghost use Rattle.std.specs.Prelude.{◌≡◌, ℕ, ◌<◌, IsTrue, length, slice_index};
 ghost use Rattle.object_shards.specs.Shards.{start, stand};
+ghost use Rattle.object_shards.specs.Blocks.{least_in, block_of, block_count};
 
+use crate::blocks::{refill, refresh};
 use crate::shard::Shard;
-use crate::shards::{copied, due_after, make_room, object_with, put, rewrite, take};
+use crate::shards::{copied, due_after, make_room, object_with, place_of, put, rewrite, take};
 use delf_model::{Moment, ObjectId, ObjectRow};
 use std::alloc::{AllocError, Global};
 
-/// The object rows of a graph by rising id, in shards of at most 256 neighbouring rows.
+/// The object rows of a graph by rising id, in shards of at most 256 neighbouring rows, with the least due of each 64 neighbouring shards.
 #[derive(Drop)]
 pub struct ObjectShards {
     alloc: Global,
     // By rising ids; the first begins at 0.
     shards: Vec<Shard>,
+    // Of each block of neighbouring shards, in their order.
+    leasts: Vec<Moment>,
     ghost in_order: { IsTrue (stand shards.items) },
     ghost whole: { start shards.items ≡ 0 },
+    ghost blocks: { length leasts.items ≡ block_count (length shards.items) },
+    ghost least_dues: { (block : ℕ) → block < length leasts.items → slice_index leasts.items block ≡ least_in (block_of block shards.items) },
 }
 
 impl ObjectShards {
-    ghost use Rattle.std.specs.Prelude.{ℕ, IfOk, OnOk, None, [], find, filter, map, is_some};
+    ghost use Rattle.std.specs.Prelude.{IfOk, OnOk, None, [], find, filter, map, is_some};
     ghost use Rattle.delf_model.specs.Graph.{has_id, put_object as with_row, rewritten, is_other_object};
     ghost use Rattle.delf_model.specs.Store.{least_due};
     ghost use Rattle.object_shards.specs.ObjectShards.{objects_of, is_ready};
@@ -29,7 +35,13 @@ impl ObjectShards {
     {
         let mut shards = Vec::new(alloc);
         shards.push(Shard::of(alloc, 0, &[])?)?;
-        Ok(ObjectShards { alloc, shards })
+        let mut leasts = Vec::with_capacity(alloc, 1)?;
+        refill(&mut leasts, &shards);
+        Ok(ObjectShards {
+            alloc,
+            shards,
+            leasts,
+        })
     }
 
     /// The row of the object with this id. Takes no memory, as all calls here but `empty`, `objects` and `ready_object`.
@@ -43,7 +55,7 @@ impl ObjectShards {
     pub fn next_due(&self, moment: Moment, after: Option<ObjectId>) -> Option<ObjectId>
         ensures { result ≡ least_due moment after (objects_of self.now) }
     {
-        due_after(&self.shards, moment, after)
+        due_after(&self.shards, &self.leasts, moment, after)
     }
 
     /// All object rows by rising id. The only error is want of memory.
@@ -60,7 +72,14 @@ impl ObjectShards {
         ensures ready { OnOk result (IsTrue (is_ready self.new id)) }
         ensures kept { (other : ℕ) → IsTrue (is_ready self.old other) → IsTrue (is_ready self.new other) }
     {
-        make_room(self.alloc, &mut self.shards, id)
+        self.leasts.reserve(1)?;
+        let count = self.shards.len();
+        let made = make_room(self.alloc, &mut self.shards, id);
+        if self.shards.len() == count {
+            return made;
+        }
+        refill(&mut self.leasts, &self.shards);
+        made
     }
 
     /// Puts an object whose id is free and was made ready.
@@ -69,7 +88,8 @@ impl ObjectShards {
         requires ready { IsTrue (is_ready self.old row.id) }
         ensures { objects_of self.new ≡ with_row row (objects_of self.old) }
     {
-        put(&mut self.shards, row);
+        let place = put(&mut self.shards, row);
+        refresh(&mut self.leasts, &self.shards, place);
     }
 
     /// Gives an object that stands a new payload: the position that gave it and its size.
@@ -85,6 +105,14 @@ impl ObjectShards {
         ensures row { result ≡ find (has_id id) (objects_of self.old) }
         ensures objects { objects_of self.new ≡ filter (is_other_object id) (objects_of self.old) }
     {
-        take(&mut self.shards, id)
+        let count = self.shards.len();
+        let place = place_of(&self.shards, id);
+        let row = take(&mut self.shards, id);
+        if self.shards.len() == count {
+            refresh(&mut self.leasts, &self.shards, place);
+            return row;
+        }
+        refill(&mut self.leasts, &self.shards);
+        row
     }
 }

@@ -73,6 +73,7 @@ impl Shard {
     pub fn reserve(&mut self) -> Result<(), AllocError>
         requires { length self.old.rows.items < 256 }
         ensures low { self.new.low ≡ self.old.low }
+        ensures least { self.new.least ≡ self.old.least }
         ensures rows { self.new.rows.items ≡ self.old.rows.items }
         ensures kept { IsTrue (has_room self.old) → IsTrue (has_room self.new) }
         ensures room { OnOk result (IsTrue (has_room self.new)) }
@@ -95,6 +96,7 @@ impl Shard {
     /// Gives the row with this id a new payload.
     pub fn rewrite(&mut self, id: ObjectId, at: u32, size: u16)
         ensures low { self.new.low ≡ self.old.low }
+        ensures least { self.new.least ≡ self.old.least }
         ensures rows { self.new.rows.items ≡ map (rewritten id at size) self.old.rows.items }
     {
         rewrite_row(&mut self.rows, id, at, size);

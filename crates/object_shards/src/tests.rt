@@ -93,6 +93,33 @@ fn a_wave_is_taken_in_the_order_of_ids(rt: HostRuntime) -> Result<(), Fail> {
     Ok(())
 }
 
+const ROWS: u64 = 300_000;
+
+#[test]
+fn a_wave_of_many_rows_is_taken_one_by_one(rt: HostRuntime) -> Result<(), Fail> {
+    let mut shards = ObjectShards::empty(rt.alloc())?;
+    // The first half is due after the second.
+    for n in 1..ROWS + 1 {
+        add(
+            &mut shards,
+            row(n, if n <= ROWS / 2 { 9000 } else { 5000 })?,
+        )?;
+    }
+    for taken in 0..ROWS / 2 {
+        let next = shards.next_due(5000, None).ok_or("none due")?;
+        assert_eq!(rt; next.get(), ROWS / 2 + taken + 1);
+        assert!(rt; shards.take_object(next).is_some());
+    }
+    assert!(rt; shards.next_due(8999, None).is_none());
+    for taken in 0..ROWS / 2 {
+        let next = shards.next_due(9000, None).ok_or("none due")?;
+        assert_eq!(rt; next.get(), taken + 1);
+        assert!(rt; shards.take_object(next).is_some());
+    }
+    assert!(rt; shards.objects(rt.alloc())?.is_empty());
+    Ok(())
+}
+
 #[test]
 fn drawn_calls_agree_with_a_plain_list(rt: HostRuntime) -> Result<(), Fail> {
     let mut shards = ObjectShards::empty(rt.alloc())?;

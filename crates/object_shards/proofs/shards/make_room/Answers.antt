@@ -5,6 +5,7 @@ use Rattle.std.proofs.Math.ListN.{set}
 use Rattle.object_shards.specs.declared.shard.Shard.{Shard}
 use Rattle.object_shards.specs.Shards.{has_room, ready_in}
 use Rattle.object_shards.proofs.Within.{same_is_local}
+use Rattle.object_shards.proofs.Leasts.{dues_same}
 use Rattle.object_shards.proofs.Parts.{at_shard, edited_at, kept_at, ready_at, room_ready, got_at}
 use Rattle.object_shards.proofs.shards.make_room.Goals as goal
 
@@ -50,3 +51,8 @@ part-requires-clause-full c = λ shard is.
       ap has_room (sym one) ∙ (sym c.has_room.ensures ∙ c.if-has_room.false),
       (let long = ap (λ (s : Shard). s.rows.len) other in let ok = shard.rows.ok.0 in omega arith),
     )
+
+pub returns-then-len-lt-SHARD_ROWS-clause-dues : goal.returns-then-len-lt-SHARD_ROWS-clause-dues
+returns-then-len-lt-SHARD_ROWS-clause-dues c = λ _. dues_same c.args.shards.now.items c.place_of-place.result c.index_mut.result.now c.reserve.new.self
+    (let within = c.place_of-place.ensures.within in let long = c.deref.ensures.len in let is = c.args.shards.now.ok.0 in omega arith)
+    c.index_mut.ensures.value c.reserve.ensures.least

@@ -1,6 +1,7 @@
 use Rattle.std.proofs.Common.{◌∙◌, sym}
 use Rattle.delf_model.specs.Graph.{put_object}
 use Rattle.object_shards.proofs.Within.{put_is_local}
+use Rattle.object_shards.proofs.Leasts.{dues_elsewhere}
 use Rattle.object_shards.proofs.Parts.{at_shard, edited_at, ready_room, find_in_shard}
 use Rattle.object_shards.proofs.shards.put.Goals as goal
 
@@ -25,3 +26,6 @@ returns-clause-rows c =
     (edited_at c.args.row.id (put_object c.args.row) (put_is_local c.args.row) c.args.shards.now.items c.deref.result.now c.place_of-place.result
     c.index_mut.result.now c.put.new.self c.requires.stand c.requires.first c.deref.ensures.value c.place_of-place.ensures.place
     c.place_of-place.ensures.within c.index_mut.ensures.value c.put.ensures.low c.put.ensures.rows).rows
+
+pub returns-clause-dues : goal.returns-clause-dues
+returns-clause-dues c = λ k other. dues_elsewhere c.args.shards.now.items c.place_of-place.result c.put.new.self k other

@@ -1,6 +1,6 @@
 use Rattle.std.proofs.Common.{ℕ, ◌≤◌, ◌<◌, get_or}
 use Rattle.object_shards.specs.Shards.{dues_of}
-use Rattle.object_shards.proofs.shards.first_due.Given as goal
+use Rattle.object_shards.proofs.blocks.first_in_block.Given as goal
 
 abbrev pub invariant-loop-place : goal.invariant-loop-place
 invariant-loop-place l = record {
