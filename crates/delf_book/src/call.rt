@@ -50,7 +50,8 @@ impl<G: GraphStore, R: Rig> Book<G, R> {
             payload,
         ) {
             Ok(()) => {
-                self.rested = Snapshot::of(&self.rig);
+                let rested = Snapshot::of(&self.rig);
+                self.rested = rested;
                 Ok(receipt)
             }
             Err(EntryFault::OutOfMemory) => Err(Refusal::OutOfMemory),

@@ -116,6 +116,8 @@ impl<G: GraphStore> Fold<G> {
         ensures payloads { result.payloads ≡ payloads_in (state_of self) (R.Disk.seen rig) }
     {
         let Fold { ledger, carriers } = self;
+        // The length tells that the history is legal.
+        let _len = ledger.len();
         Book {
             ledger,
             logs: Logs {

@@ -50,7 +50,8 @@ impl<G: GraphStore, R: Rig> Book<G, R> {
         ) {
             Ok(left) => {
                 self.spare = left;
-                self.rested = Snapshot::of(&self.rig);
+                let rested = Snapshot::of(&self.rig);
+                self.rested = rested;
                 Ok(Worked::Stepped { position: len })
             }
             Err(Halt::OutOfMemory) => Err(StepFault::OutOfMemory),

@@ -1,7 +1,10 @@
 use Rattle.std.proofs.Common.{sym, subst}
 use Rattle.delf_disk.specs.Plain.{Plain}
+use Rattle.delf_model.specs.Step.{after}
+use Rattle.store_laws.specs.Stores.{AreSealed}
 use Rattle.delf_book.specs.Books.{Booked}
-use Rattle.delf_book.specs.Holding.{Holds}
+use Rattle.delf_book.specs.Holding.{Holds, StandWhole}
+use Rattle.delf_book.specs.Keeping.{payloads_in}
 use Rattle.delf_book.proofs.Fallen.{holds_now}
 use Rattle.delf_book.proofs.book.Book.standing.Goals as goal
 
@@ -11,4 +14,11 @@ returns-clause-holds g c = λ plain.
     let here : Plain (g.R.Disk.told c.self.inside.rig) (g.R.Disk.honest c.self.inside.rig) =
     subst (λ (b : Booked g.row.G.Denot g.row.R.Denot). Plain (g.R.Disk.told b.rig) (g.R.Disk.honest b.rig)) (sym c.self.view_is) plain in
     subst (λ (b : Booked g.row.G.Denot g.row.R.Denot). Holds g.R.Disk.seen g.R.Disk.may_leave b) c.self.view_is
-    (holds_now g.R.Disk.seen g.R.Disk.may_leave view c.len-len.ensures.legal (λ up. (c.self.invariant.0 up).areas here) c.self.invariant.1 (λ down. c.self.invariant.2 down here))
+    (holds_now g.R.Disk.seen g.R.Disk.may_leave view c.len-len.ensures.legal (g.R.Disk.seen c.self.inside.opened.value) (λ up. (c.self.invariant.0 up).areas here) c.self.invariant.1
+    (λ down. c.self.invariant.2 down here) (c.self.invariant.3 here))
+
+pub returns-clause-sealed : goal.returns-clause-sealed
+returns-clause-sealed g c = λ plain.
+    let here : Plain (g.R.Disk.told c.self.inside.rig) (g.R.Disk.honest c.self.inside.rig) =
+    subst (λ (b : Booked g.row.G.Denot g.row.R.Denot). Plain (g.R.Disk.told b.rig) (g.R.Disk.honest b.rig)) (sym c.self.view_is) plain in
+    subst (λ (b : Booked g.row.G.Denot g.row.R.Denot). StandWhole b.rules (g.R.Disk.seen b.opened) → AreSealed b.rules b.history b.payloads) c.self.view_is (c.self.invariant.3 here).sealed
