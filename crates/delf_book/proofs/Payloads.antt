@@ -5,7 +5,7 @@ use Rattle.std.proofs.lemmas.List.Elements.{filter-append}
 use Rattle.std.specs.Prelude.{filter, slice_get}
 use Rattle.delf_disk.specs.Areas.{Areas}
 use Rattle.delf_disk.specs.Causes.{Rose}
-use Rattle.delf_disk.specs.Plain.{SameKind}
+use Rattle.delf_disk.specs.Plain.{SameKind, SameTelling}
 use Rattle.delf_disk.specs.declared.area.Order.{Order}
 use Rattle.gate_log.specs.Records.{Record}
 use Rattle.delf_model.specs.declared.entry.Entry.{Entry}
@@ -178,18 +178,21 @@ keeps_opened rules h seen images legal image kept = record { reads = λ up. refl
 
 -- what it keeps of its opening
 
-module _ {R : Type 0} {told honest : R → Bool} {faults : R → ℕ} {order : R → Order} {orders : R → ℕ} {down : Bool} {opened old new : R}
-    (kept : KeepsOpening told honest faults down opened old) (kind : SameKind told honest order orders old new) where
-  pub opening_still : faults new ≡ faults old → KeepsOpening told honest faults down opened new
-  opening_still same = record {
-    telling = record { tells = kind.tells ∙ kept.telling.tells; keeps_word = kind.keeps_word ∙ kept.telling.keeps_word };
+module _ {R : Type 0} {told honest : R → Bool} {faults : R → ℕ} {down : Bool} {opened old new : R} (kept : KeepsOpening told honest faults down opened old) where
+  pub opening_told : SameTelling told honest old new → faults new ≡ faults old → KeepsOpening told honest faults down opened new
+  opening_told telling same = record {
+    telling = record { tells = telling.tells ∙ kept.telling.tells; keeps_word = telling.keeps_word ∙ kept.telling.keeps_word };
     later = subst (λ (n : ℕ). faults opened ≤ n) (sym same) kept.later;
     rose = λ is. subst (λ (n : ℕ). Rose (faults opened) n) (sym same) (kept.rose is);
   }
 
-  pub opening_fell : faults old ≤ faults new → Rose (faults old) (faults new) → KeepsOpening told honest faults true opened new
-  opening_fell later rose = record {
-    telling = record { tells = kind.tells ∙ kept.telling.tells; keeps_word = kind.keeps_word ∙ kept.telling.keeps_word };
-    later = let before = kept.later in omega (arith, before, later);
-    rose = λ is. let before = kept.later in omega (arith, before, rose);
-  }
+  module _ {order : R → Order} {orders : R → ℕ} (kind : SameKind told honest order orders old new) where
+    pub opening_still : faults new ≡ faults old → KeepsOpening told honest faults down opened new
+    opening_still same = opening_told (record { tells = kind.tells; keeps_word = kind.keeps_word }) same
+
+    pub opening_fell : faults old ≤ faults new → Rose (faults old) (faults new) → KeepsOpening told honest faults true opened new
+    opening_fell later rose = record {
+      telling = record { tells = kind.tells ∙ kept.telling.tells; keeps_word = kind.keeps_word ∙ kept.telling.keeps_word };
+      later = let before = kept.later in omega (arith, before, later);
+      rose = λ is. let before = kept.later in omega (arith, before, rose);
+    }

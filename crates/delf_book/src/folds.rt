@@ -118,6 +118,8 @@ impl<G: GraphStore> Fold<G> {
         let Fold { ledger, carriers } = self;
         // The length tells that the history is legal.
         let _len = ledger.len();
+        let rested = Snapshot::of(&rig);
+        let opened = Snapshot::of(&rig);
         Book {
             ledger,
             logs: Logs {
@@ -128,8 +130,8 @@ impl<G: GraphStore> Fold<G> {
             spare: 0,
             down: false,
             beside: None,
-            rested: Snapshot::of(&rig),
-            opened: Snapshot::of(&rig),
+            rested,
+            opened,
             rig,
         }
     }

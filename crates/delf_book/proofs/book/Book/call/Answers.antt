@@ -5,7 +5,7 @@ use Rattle.delf_model.specs.Payloads.{payloads_after}
 use Rattle.store_laws.specs.Stores.{digest}
 use Rattle.delf_book.specs.declared.faults.EntryFault.{EntryFault}
 use Rattle.delf_book.proofs.Payloads.{rests_with, grew_by, keeps_longer, keeps_fallen, opening_still, opening_fell}
-use Rattle.delf_book.proofs.Plainly.{at_ledger}
+use Rattle.delf_book.proofs.Plainly.{at_ledger, starved_is}
 use Rattle.delf_book.proofs.Fallen.{fell_beside}
 use Rattle.delf_book.specs.Keeping.{KeepsDown, KeepsPayloads, payloads_in}
 use Rattle.delf_model.specs.Step.{after}
@@ -130,6 +130,48 @@ returns-in-Ok-clause-payloads g c = λ plain.
     (g.R.Disk.seen c.enter.new.disk) (g.R.Disk.may_leave c.self.inside.rig) (g.R.Disk.may_leave c.enter.new.disk) c.len-len.ensures.legal line
     (g.met.R.Disk.reads_as_image c.self.inside.rig here) (g.met.R.Disk.reads_as_image c.enter.new.disk next) areas.rests
     (subst (λ (p : List ℕ). IsDurable g.R.Disk.may_leave l.rules l.history entry p c.self.inside.rig c.enter.new.disk) c.payload_of-payload.ensures durable (payloads_in (after l.rules l.history) (g.R.Disk.seen c.self.inside.rig)) areas.rests))))
+
+pub invariant_of-self : goal.invariant_of-self
+invariant_of-self g c = (
+  λ up. c.in-Ok.ensures.up,
+  λ up. c.self.invariant.1 c.if-self.false,
+  λ down plain. absurd (cc (down, c.if-self.false)),
+  λ next.
+    let here = was_plain c.enter.ensures.kind next in
+    let l = c.self.inside.ledger in
+    let now = c.enter.new.ledger in
+    let areas = (c.self.invariant.0 c.if-self.false).areas here in
+    let durable = c.in-Ok.ensures.durable here in
+    let e = payloads_in (after l.rules l.history) (g.R.Disk.seen c.self.inside.rested.value) in
+    let entry : Entry = record { moment = c.moment_at-moment.result; what = c.in_ok-what.what } in
+    let longer : List Entry = l.history ++ entry ∷ [] in
+    let line = c.in_ok-what.ensures.legal in
+    at_ledger (λ (r : RuleSet) (h : List Entry). KeepsPayloads r h (payloads_in (after r h) (g.R.Disk.seen c.of-rested.result.value)) c.self.inside.down (g.R.Disk.seen c.enter.new.disk) (g.R.Disk.seen c.self.inside.opened.value))
+    l.rules now.rules longer now.history c.in-Ok.ensures.ok.rules c.in-Ok.ensures.ok.history
+    (subst (λ (x : g.row.R.Denot). KeepsPayloads l.rules longer (payloads_in (after l.rules longer) (g.R.Disk.seen x)) c.self.inside.down (g.R.Disk.seen c.enter.new.disk) (g.R.Disk.seen c.self.inside.opened.value)) (sym c.of-rested.ensures)
+    (keeps_longer l.rules l.history e c.self.inside.down (g.R.Disk.seen c.self.inside.rig) (g.R.Disk.seen c.self.inside.opened.value) c.if-self.false (c.self.invariant.3 here) entry (given_by c.args.call.now)
+    (g.R.Disk.seen c.enter.new.disk) (g.R.Disk.may_leave c.self.inside.rig) (g.R.Disk.may_leave c.enter.new.disk) c.len-len.ensures.legal line
+    (g.met.R.Disk.reads_as_image c.self.inside.rig here) (g.met.R.Disk.reads_as_image c.enter.new.disk next) areas.rests
+    (subst (λ (p : List ℕ). IsDurable g.R.Disk.may_leave l.rules l.history entry p c.self.inside.rig c.enter.new.disk) c.payload_of-payload.ensures durable (payloads_in (after l.rules l.history) (g.R.Disk.seen c.self.inside.rig)) areas.rests))),
+  opening_still c.self.invariant.4 c.enter.ensures.kind c.in-Ok.ensures.cause,
+)
+
+
+pub invariant_of-self-in-Err-OutOfMemory : goal.invariant_of-self-in-Err-OutOfMemory
+invariant_of-self-in-Err-OutOfMemory g c =
+    let l = c.self.inside.ledger in
+    let now = c.enter.new.ledger in
+    let disk : c.enter.new.disk ≡ c.self.inside.rig = c.enter.ensures.starved (c.in-Err-OutOfMemory.is ∙ ap (λ (f : EntryFault). Err f) c.in-Err-OutOfMemory.field-0-is) in (
+      λ up. starved_is _ c.in-Err-OutOfMemory.field-0 c.in-Err-OutOfMemory.field-0-is c.in-Err-OutOfMemory.ensures.up,
+      λ up. c.self.invariant.1 c.if-self.false,
+      λ down plain. absurd (cc (down, c.if-self.false)),
+      λ plain.
+          at_ledger (λ (r : RuleSet) (h : List Entry). KeepsPayloads r h (payloads_in (after r h) (g.R.Disk.seen c.self.inside.rested.value)) c.self.inside.down (g.R.Disk.seen c.enter.new.disk) (g.R.Disk.seen c.self.inside.opened.value))
+          l.rules now.rules l.history now.history c.enter.ensures.rules c.in-Err-OutOfMemory.ensures.err
+          (subst (λ (x : g.row.R.Denot). KeepsPayloads l.rules l.history (payloads_in (after l.rules l.history) (g.R.Disk.seen c.self.inside.rested.value)) c.self.inside.down (g.R.Disk.seen x) (g.R.Disk.seen c.self.inside.opened.value)) (sym disk)
+          (c.self.invariant.3 (was_plain c.enter.ensures.kind plain))),
+      opening_still c.self.invariant.4 c.enter.ensures.kind (ap g.R.Disk.faults disk),
+    )
 
 pub invariant_of-self-in-Err-Failed : goal.invariant_of-self-in-Err-Failed
 invariant_of-self-in-Err-Failed g c =

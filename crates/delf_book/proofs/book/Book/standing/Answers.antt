@@ -1,5 +1,6 @@
-use Rattle.std.proofs.Common.{sym, subst}
-use Rattle.delf_disk.specs.Plain.{Plain}
+use Rattle.std.proofs.Common.{◌≡◌, ◌≤◌, true, sym, subst}
+use Rattle.delf_disk.specs.Causes.{Rose}
+use Rattle.delf_disk.specs.Plain.{Plain, SameTelling}
 use Rattle.delf_model.specs.Step.{after}
 use Rattle.store_laws.specs.Stores.{AreSealed}
 use Rattle.delf_book.specs.Books.{Booked}
@@ -22,3 +23,13 @@ returns-clause-sealed g c = λ plain.
     let here : Plain (g.R.Disk.told c.self.inside.rig) (g.R.Disk.honest c.self.inside.rig) =
     subst (λ (b : Booked g.row.G.Denot g.row.R.Denot). Plain (g.R.Disk.told b.rig) (g.R.Disk.honest b.rig)) (sym c.self.view_is) plain in
     subst (λ (b : Booked g.row.G.Denot g.row.R.Denot). StandWhole b.rules (g.R.Disk.seen b.opened) → AreSealed b.rules b.history b.payloads) c.self.view_is (c.self.invariant.3 here).sealed
+
+pub returns-clause-telling : goal.returns-clause-telling
+returns-clause-telling g c = subst (λ (b : Booked g.row.G.Denot g.row.R.Denot). SameTelling g.R.Disk.told g.R.Disk.honest b.opened b.rig) c.self.view_is c.self.invariant.4.telling
+
+pub returns-clause-later : goal.returns-clause-later
+returns-clause-later g c = subst (λ (b : Booked g.row.G.Denot g.row.R.Denot). g.R.Disk.faults b.opened ≤ g.R.Disk.faults b.rig) c.self.view_is c.self.invariant.4.later
+
+pub returns-clause-fell : goal.returns-clause-fell
+returns-clause-fell g c =
+    subst (λ (b : Booked g.row.G.Denot g.row.R.Denot). b.down ≡ true → Rose (g.R.Disk.faults b.opened) (g.R.Disk.faults b.rig)) c.self.view_is c.self.invariant.4.rose
