@@ -9,12 +9,11 @@ use Rattle.delf_disk.specs.Areas.{Areas}
 use Rattle.gate_log.specs.Records.{Record}
 use Rattle.delf_model.specs.declared.entry.Entry.{Entry}
 use Rattle.delf_model.specs.RuleSet.{RuleSet}
-use Rattle.delf_model.specs.State.{State}
 use Rattle.delf_model.specs.Step.{after}
 use Rattle.delf_model.specs.Legal.{Legal}
-use Rattle.delf_model.specs.Payloads.{Payloads, is_needed, is_at, bytes_of_pair, last_carrier}
+use Rattle.delf_model.specs.Payloads.{Payloads, is_needed, is_at, bytes_of_pair}
 use Rattle.payload_laws.proofs.Moves.{payloads_held}
-use Rattle.store_laws.specs.Stores.{Spell, Hold, payload_in, journal_of, vault_of}
+use Rattle.store_laws.specs.Stores.{Spell, Hold, journal_of, vault_of}
 use Rattle.store_laws.specs.Moves.{RestIn}
 use Rattle.delf_book.specs.Keeping.{pair_if, pairs_below, held_at, payloads_in}
 

@@ -1,5 +1,5 @@
 -- What an entry makes of the payloads that areas hold, and what a book keeps of its payloads and of its opening.
-use Rattle.std.proofs.Common.{◌≡◌, ℕ, suc, ◌≤◌, ◌<◌, Bool, true, false, List, [], ◌∷◌, ◌++◌, Some, refl, sym, ap, ◌∙◌, subst, add-one, arith}
+use Rattle.std.proofs.Common.{◌≡◌, ℕ, ◌≤◌, ◌<◌, Bool, true, false, List, [], ◌∷◌, ◌++◌, Some, refl, sym, ap, ◌∙◌, subst, add-one, arith}
 use Rattle.std.proofs.lemmas.Bool.{false≢true}
 use Rattle.std.proofs.lemmas.List.Elements.{filter-append}
 use Rattle.std.specs.Prelude.{filter, slice_get}
@@ -15,7 +15,7 @@ use Rattle.delf_model.specs.RuleSet.{RuleSet}
 use Rattle.delf_model.specs.State.{State}
 use Rattle.delf_model.specs.Step.{step, after}
 use Rattle.delf_model.specs.Legal.{Legal, is_legal}
-use Rattle.delf_model.specs.Payloads.{Payloads, is_needed, bytes_of_pair, brought, payloads_after, payload_at}
+use Rattle.delf_model.specs.Payloads.{Payloads, is_needed, bytes_of_pair, brought, payloads_after}
 use Rattle.delf_model.proofs.Runs.{after_push}
 use Rattle.payload_laws.specs.Holders.{brings, Carried, Stays, Brought, Taken, PutBack, PayloadsMove, PositionsHeld}
 use Rattle.payload_laws.proofs.Moves.{payloads_held}
@@ -101,9 +101,9 @@ module _ (s : State) (entry : Entry) (given : List ℕ) (journal vault journal_n
         (ap (λ (l : List (ℕ × List ℕ)). l ++ pair_if (now s.len) s.len (behind s.len)) (pairs_same now behind before s.len reads_before) ∙
         (ap (λ (l : List (ℕ × List ℕ)). pairs_below now before s.len ++ l) (reads_last (now s.len) refl) ∙
         sym
-            (filter-append (is_taken now) old.bytes (brought s.len entry.what given) ∙
-            (ap (λ (l : List (ℕ × List ℕ)). l ++ filter (is_taken now) (brought s.len entry.what given)) (pairs_kept (is_needed s) now before s.len was_needed) ∙
-            ap (λ (l : List (ℕ × List ℕ)). pairs_below now before s.len ++ l) (brought_taken now s.len entry.what given brings_last)))))
+        (filter-append (is_taken now) old.bytes (brought s.len entry.what given) ∙
+        (ap (λ (l : List (ℕ × List ℕ)). l ++ filter (is_taken now) (brought s.len entry.what given)) (pairs_kept (is_needed s) now before s.len was_needed) ∙
+        ap (λ (l : List (ℕ × List ℕ)). pairs_below now before s.len ++ l) (brought_taken now s.len entry.what given brings_last)))))
 
 -- areas that hold the payloads after an entry hold just those
 pub payloads_longer : (rules : RuleSet) (h : List Entry) (entry : Entry) (given : List ℕ) (c d : Areas) → Legal rules h → is_legal (after rules h) entry ≡ true →
@@ -174,7 +174,7 @@ keeps_opened rules h seen images legal image kept = record { reads = λ up. refl
         let whole : AreSealed rules h e = subst (λ (l : List Entry). AreSealed rules l e) same stand.sealed in
         let one = one_payloads rules h e (payloads_in (after rules h) seen) seen but mine in
         λ p i needed carried.
-            ap (λ (l : List (List ℕ)). slice_get l i) (sym one.seals) ∙ (whole p i needed carried ∙ ap (λ (l : List ℕ). Some (digest l)) (one.bytes p))
+        ap (λ (l : List (List ℕ)). slice_get l i) (sym one.seals) ∙ (whole p i needed carried ∙ ap (λ (l : List ℕ). Some (digest l)) (one.bytes p))
 
 -- what it keeps of its opening
 

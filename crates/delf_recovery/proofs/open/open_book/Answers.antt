@@ -5,12 +5,10 @@ use Rattle.delf_model.specs.declared.entry.Entry.{Entry}
 use Rattle.store_laws.specs.Stores.{StandBut}
 use Rattle.store_laws.specs.Moves.{RestIn}
 use Rattle.delf_model.specs.RuleSet.{RuleSet}
-use Rattle.delf_model.specs.Step.{after}
 use Rattle.delf_model.specs.Payloads.{Payloads}
 use Rattle.delf_disk.proofs.Flags.{stays_plain}
 use Rattle.opening_laws.specs.Entries.{SamePayloads}
 use Rattle.delf_book.specs.Holding.{StandWhole}
-use Rattle.delf_book.specs.Keeping.{payloads_in}
 use Rattle.delf_recovery.specs.Opening.{StandsNow}
 use Rattle.delf_recovery.proofs.Wholes.{same_read, whole_now}
 use Rattle.delf_recovery.proofs.open.open_book.Goals as goal

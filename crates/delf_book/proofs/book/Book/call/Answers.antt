@@ -137,25 +137,24 @@ invariant_of-self g c = (
   λ up. c.self.invariant.1 c.if-self.false,
   λ down plain. absurd (cc (down, c.if-self.false)),
   λ next.
-    let here = was_plain c.enter.ensures.kind next in
-    let l = c.self.inside.ledger in
-    let now = c.enter.new.ledger in
-    let areas = (c.self.invariant.0 c.if-self.false).areas here in
-    let durable = c.in-Ok.ensures.durable here in
-    let e = payloads_in (after l.rules l.history) (g.R.Disk.seen c.self.inside.rested.value) in
-    let entry : Entry = record { moment = c.moment_at-moment.result; what = c.in_ok-what.what } in
-    let longer : List Entry = l.history ++ entry ∷ [] in
-    let line = c.in_ok-what.ensures.legal in
-    at_ledger (λ (r : RuleSet) (h : List Entry). KeepsPayloads r h (payloads_in (after r h) (g.R.Disk.seen c.of-rested.result.value)) c.self.inside.down (g.R.Disk.seen c.enter.new.disk) (g.R.Disk.seen c.self.inside.opened.value))
-    l.rules now.rules longer now.history c.in-Ok.ensures.ok.rules c.in-Ok.ensures.ok.history
-    (subst (λ (x : g.row.R.Denot). KeepsPayloads l.rules longer (payloads_in (after l.rules longer) (g.R.Disk.seen x)) c.self.inside.down (g.R.Disk.seen c.enter.new.disk) (g.R.Disk.seen c.self.inside.opened.value)) (sym c.of-rested.ensures)
-    (keeps_longer l.rules l.history e c.self.inside.down (g.R.Disk.seen c.self.inside.rig) (g.R.Disk.seen c.self.inside.opened.value) c.if-self.false (c.self.invariant.3 here) entry (given_by c.args.call.now)
-    (g.R.Disk.seen c.enter.new.disk) (g.R.Disk.may_leave c.self.inside.rig) (g.R.Disk.may_leave c.enter.new.disk) c.len-len.ensures.legal line
-    (g.met.R.Disk.reads_as_image c.self.inside.rig here) (g.met.R.Disk.reads_as_image c.enter.new.disk next) areas.rests
-    (subst (λ (p : List ℕ). IsDurable g.R.Disk.may_leave l.rules l.history entry p c.self.inside.rig c.enter.new.disk) c.payload_of-payload.ensures durable (payloads_in (after l.rules l.history) (g.R.Disk.seen c.self.inside.rig)) areas.rests))),
+      let here = was_plain c.enter.ensures.kind next in
+      let l = c.self.inside.ledger in
+      let now = c.enter.new.ledger in
+      let areas = (c.self.invariant.0 c.if-self.false).areas here in
+      let durable = c.in-Ok.ensures.durable here in
+      let e = payloads_in (after l.rules l.history) (g.R.Disk.seen c.self.inside.rested.value) in
+      let entry : Entry = record { moment = c.moment_at-moment.result; what = c.in_ok-what.what } in
+      let longer : List Entry = l.history ++ entry ∷ [] in
+      let line = c.in_ok-what.ensures.legal in
+      at_ledger (λ (r : RuleSet) (h : List Entry). KeepsPayloads r h (payloads_in (after r h) (g.R.Disk.seen c.of-rested.result.value)) c.self.inside.down (g.R.Disk.seen c.enter.new.disk) (g.R.Disk.seen c.self.inside.opened.value))
+      l.rules now.rules longer now.history c.in-Ok.ensures.ok.rules c.in-Ok.ensures.ok.history
+      (subst (λ (x : g.row.R.Denot). KeepsPayloads l.rules longer (payloads_in (after l.rules longer) (g.R.Disk.seen x)) c.self.inside.down (g.R.Disk.seen c.enter.new.disk) (g.R.Disk.seen c.self.inside.opened.value)) (sym c.of-rested.ensures)
+      (keeps_longer l.rules l.history e c.self.inside.down (g.R.Disk.seen c.self.inside.rig) (g.R.Disk.seen c.self.inside.opened.value) c.if-self.false (c.self.invariant.3 here) entry (given_by c.args.call.now)
+      (g.R.Disk.seen c.enter.new.disk) (g.R.Disk.may_leave c.self.inside.rig) (g.R.Disk.may_leave c.enter.new.disk) c.len-len.ensures.legal line
+      (g.met.R.Disk.reads_as_image c.self.inside.rig here) (g.met.R.Disk.reads_as_image c.enter.new.disk next) areas.rests
+      (subst (λ (p : List ℕ). IsDurable g.R.Disk.may_leave l.rules l.history entry p c.self.inside.rig c.enter.new.disk) c.payload_of-payload.ensures durable (payloads_in (after l.rules l.history) (g.R.Disk.seen c.self.inside.rig)) areas.rests))),
   opening_still c.self.invariant.4 c.enter.ensures.kind c.in-Ok.ensures.cause,
 )
-
 
 pub invariant_of-self-in-Err-OutOfMemory : goal.invariant_of-self-in-Err-OutOfMemory
 invariant_of-self-in-Err-OutOfMemory g c =

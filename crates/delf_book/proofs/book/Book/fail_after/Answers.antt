@@ -1,4 +1,4 @@
-use Rattle.std.proofs.Common.{◌≡◌, sym, subst}
+use Rattle.std.proofs.Common.{sym, subst}
 use Rattle.delf_disk.specs.Areas.{Areas}
 use Rattle.delf_disk.proofs.Flags.{told_plain}
 use Rattle.delf_model.specs.Step.{after}

@@ -144,25 +144,24 @@ invariant_of-self g c = (
   λ up. c.self.invariant.1 c.if-self.false,
   λ down plain. absurd (cc (down, c.if-self.false)),
   λ next.
-    let here = was_plain c.step.ensures.kind next in
-    let l = c.self.inside.ledger in
-    let now = c.step.new.ledger in
-    let areas = (c.self.invariant.0 c.if-self.false).areas here in
-    let durable = c.in-Ok.ensures.durable here in
-    let e = payloads_in (after l.rules l.history) (g.R.Disk.seen c.self.inside.rested.value) in
-    let entry : Entry = step_entry c.moment_at-moment.result c.in-Some.what in
-    let longer : List Entry = l.history ++ entry ∷ [] in
-    let line = first_line (after l.rules l.history) c.moment_at-moment.result c.in-Some.what c.in-Some.ensures.legal c.in-Some.ensures.step in
-    at_ledger (λ (r : RuleSet) (h : List Entry). KeepsPayloads r h (payloads_in (after r h) (g.R.Disk.seen c.of-rested.result.value)) c.self.inside.down (g.R.Disk.seen c.step.new.disk) (g.R.Disk.seen c.self.inside.opened.value))
-    l.rules now.rules longer now.history c.in-Ok.ensures.ok.rules c.in-Ok.ensures.ok.history
-    (subst (λ (x : g.row.R.Denot). KeepsPayloads l.rules longer (payloads_in (after l.rules longer) (g.R.Disk.seen x)) c.self.inside.down (g.R.Disk.seen c.step.new.disk) (g.R.Disk.seen c.self.inside.opened.value)) (sym c.of-rested.ensures)
-    (keeps_longer l.rules l.history e c.self.inside.down (g.R.Disk.seen c.self.inside.rig) (g.R.Disk.seen c.self.inside.opened.value) c.if-self.false (c.self.invariant.3 here) entry []
-    (g.R.Disk.seen c.step.new.disk) (g.R.Disk.may_leave c.self.inside.rig) (g.R.Disk.may_leave c.step.new.disk) c.len-len.ensures.legal line
-    (g.met.R.Disk.reads_as_image c.self.inside.rig here) (g.met.R.Disk.reads_as_image c.step.new.disk next) areas.rests
-    (durable (payloads_in (after l.rules l.history) (g.R.Disk.seen c.self.inside.rig)) areas.rests))),
+      let here = was_plain c.step.ensures.kind next in
+      let l = c.self.inside.ledger in
+      let now = c.step.new.ledger in
+      let areas = (c.self.invariant.0 c.if-self.false).areas here in
+      let durable = c.in-Ok.ensures.durable here in
+      let e = payloads_in (after l.rules l.history) (g.R.Disk.seen c.self.inside.rested.value) in
+      let entry : Entry = step_entry c.moment_at-moment.result c.in-Some.what in
+      let longer : List Entry = l.history ++ entry ∷ [] in
+      let line = first_line (after l.rules l.history) c.moment_at-moment.result c.in-Some.what c.in-Some.ensures.legal c.in-Some.ensures.step in
+      at_ledger (λ (r : RuleSet) (h : List Entry). KeepsPayloads r h (payloads_in (after r h) (g.R.Disk.seen c.of-rested.result.value)) c.self.inside.down (g.R.Disk.seen c.step.new.disk) (g.R.Disk.seen c.self.inside.opened.value))
+      l.rules now.rules longer now.history c.in-Ok.ensures.ok.rules c.in-Ok.ensures.ok.history
+      (subst (λ (x : g.row.R.Denot). KeepsPayloads l.rules longer (payloads_in (after l.rules longer) (g.R.Disk.seen x)) c.self.inside.down (g.R.Disk.seen c.step.new.disk) (g.R.Disk.seen c.self.inside.opened.value)) (sym c.of-rested.ensures)
+      (keeps_longer l.rules l.history e c.self.inside.down (g.R.Disk.seen c.self.inside.rig) (g.R.Disk.seen c.self.inside.opened.value) c.if-self.false (c.self.invariant.3 here) entry []
+      (g.R.Disk.seen c.step.new.disk) (g.R.Disk.may_leave c.self.inside.rig) (g.R.Disk.may_leave c.step.new.disk) c.len-len.ensures.legal line
+      (g.met.R.Disk.reads_as_image c.self.inside.rig here) (g.met.R.Disk.reads_as_image c.step.new.disk next) areas.rests
+      (durable (payloads_in (after l.rules l.history) (g.R.Disk.seen c.self.inside.rig)) areas.rests))),
   opening_still c.self.invariant.4 c.step.ensures.kind c.in-Ok.ensures.cause,
 )
-
 
 pub invariant_of-self-in-Err-OutOfMemory : goal.invariant_of-self-in-Err-OutOfMemory
 invariant_of-self-in-Err-OutOfMemory g c =
@@ -192,9 +191,9 @@ invariant_of-self-in-Err-Damaged g c =
           let here = was_plain c.step.ensures.kind plain in
           let rests = ((c.self.invariant.0 c.if-self.false).areas here).rests in
           let read = at_hurt (λ item stored found. Plain (g.R.Disk.told c.self.inside.rig) (g.R.Disk.honest c.self.inside.rig) → (o : Payloads) → RestIn l.rules l.history o (g.R.Disk.may_leave c.self.inside.rig) →
-              Leaves g.R.Disk.moment g.R.Disk.may_leave g.R.Disk.left_since (Rests l.rules l.history o) c.self.inside.rig c.step.new.disk) c.step.result c.in-Err-Damaged.field-0
-              c.in-Err-Damaged.item c.in-Err-Damaged.stored c.in-Err-Damaged.found c.in-Err-Damaged.is c.in-Err-Damaged.field-0-is c.step.ensures.only_read here
-              (payloads_in (after l.rules l.history) (g.R.Disk.seen c.self.inside.rig)) rests in
+          Leaves g.R.Disk.moment g.R.Disk.may_leave g.R.Disk.left_since (Rests l.rules l.history o) c.self.inside.rig c.step.new.disk) c.step.result c.in-Err-Damaged.field-0
+          c.in-Err-Damaged.item c.in-Err-Damaged.stored c.in-Err-Damaged.found c.in-Err-Damaged.is c.in-Err-Damaged.field-0-is c.step.ensures.only_read here
+          (payloads_in (after l.rules l.history) (g.R.Disk.seen c.self.inside.rig)) rests in
           at_ledger (λ (r : RuleSet) (h : List Entry). KeepsPayloads r h (payloads_in (after r h) (g.R.Disk.seen c.self.inside.rested.value)) c.self.inside.down (g.R.Disk.seen c.step.new.disk) (g.R.Disk.seen c.self.inside.opened.value))
           l.rules now.rules l.history now.history c.step.ensures.rules c.in-Err-Damaged.ensures.err
           (keeps_still l.rules l.history (payloads_in (after l.rules l.history) (g.R.Disk.seen c.self.inside.rested.value)) c.self.inside.down (g.R.Disk.seen c.self.inside.rig) (g.R.Disk.seen c.self.inside.opened.value)
