@@ -3,7 +3,8 @@ use Rattle.std.proofs.Common.{◌≡◌, ℕ, ◌≤◌, List, length, sym, ap, 
 use Rattle.std.specs.Prelude.{Result, Ok}
 use Rattle.delf_disk.specs.Areas.{Areas}
 use Rattle.delf_disk.specs.Moments.{Leaves}
-use Rattle.delf_model.specs.Payloads.{Payloads}
+use Rattle.delf_model.specs.Payloads.{Payloads, payloads_after}
+use Rattle.store_laws.specs.Stores.{digest}
 use Rattle.store_laws.specs.Moves.{RestIn}
 use Rattle.delf_book.specs.Writing.{Rests}
 use Rattle.delf_model.specs.declared.call.Call.{Call}
@@ -48,6 +49,15 @@ module _ {G R : Type 0} (view book : Booked G R) (is : view ≡ book) (now seat 
         IsDurable may_leave b.rules b.history (record { moment = moment_of (state_in b) now; what = other }) (given_by asked) b.rig new) is
         (λ other at. subst (λ (w : What). P (moment_of (state_in view) now) w (given_by asked)) (same_what other at)
         (subst (λ (k : ℕ). P k what (given_by asked)) m_is (subst (λ (p : List ℕ). P m what p) p_is safe)))
+
+  pub call_brings : (e : Payloads) → e ≡ payloads_after digest (state_in view) (record { moment = m; what = what }) (given_by asked) view.payloads →
+      (other : What) → reply (state_in book) (moment_of (state_in book) now) seat asked ≡ Ok other →
+      e ≡ payloads_after digest (state_in book) (record { moment = moment_of (state_in book) now; what = other }) (given_by asked) book.payloads
+  call_brings e grew =
+      let P : ℕ → What → Type 0 = λ k w. e ≡ payloads_after digest (state_in view) (record { moment = k; what = w }) (given_by asked) view.payloads in
+      subst (λ (b : Booked G R). (other : What) → reply (state_in b) (moment_of (state_in b) now) seat asked ≡ Ok other →
+      e ≡ payloads_after digest (state_in b) (record { moment = moment_of (state_in b) now; what = other }) (given_by asked) b.payloads) is
+      (λ other at. subst (λ (w : What). P (moment_of (state_in view) now) w) (same_what other at) (subst (λ (k : ℕ). P k what) m_is grew))
 
   pub call_seals : (may_leave : R → Areas → Type 0) → SealsStay may_leave view.rules view.history (record { moment = m; what = what }) (given_by asked) view.rig →
       (other : What) → reply (state_in book) (moment_of (state_in book) now) seat asked ≡ Ok other →

@@ -4,7 +4,6 @@ use Rattle.std.specs.Prelude.{Option, Some, None}
 use Rattle.delf_disk.specs.Areas.{Areas}
 use Rattle.delf_model.specs.declared.entry.Entry.{Entry}
 use Rattle.delf_model.specs.RuleSet.{RuleSet}
-use Rattle.delf_model.specs.Step.{after}
 use Rattle.delf_model.specs.Legal.{Legal}
 use Rattle.delf_model.specs.Payloads.{Payloads}
 use Rattle.store_laws.specs.Stores.{StandBut}
@@ -13,8 +12,9 @@ use Rattle.store_laws.proofs.Appends.{rest_stand}
 use Rattle.delf_book.specs.Parts.{Interrupted}
 use Rattle.delf_book.specs.Books.{Booked}
 use Rattle.delf_book.specs.Holding.{StandsBeside, Holds}
-use Rattle.delf_book.specs.Keeping.{KeepsAreas, KeepsDown, payloads_in}
+use Rattle.delf_book.specs.Keeping.{KeepsAreas, KeepsDown, KeepsPayloads}
 use Rattle.delf_book.specs.Writing.{Rests}
+use Rattle.delf_book.proofs.Payloads.{rests_with}
 
 beside_none : (rules : RuleSet) (h : List Entry) (e : Payloads) (beside : Option Interrupted) (c : Areas) → beside ≡ None → StandBut rules h e c →
     StandsBeside rules h e beside c
@@ -28,45 +28,35 @@ rest_beside rules h e beside images legal none rests = λ c image.
 
 -- a call that adds no entry met a fault
 pub fell_alone : (rules : RuleSet) (h : List Entry) (e : Payloads) (beside : Option Interrupted) (images : Areas → Type 0) → Legal rules h → beside ≡ None →
-    ((c : Areas) → images c → Rests rules h e c) → KeepsDown rules h beside images
-fell_alone rules h e beside images legal none rests = record { payloads = e; stands = rest_beside rules h e beside images legal none rests }
+    ((c : Areas) → images c → Rests rules h e c) → KeepsDown rules h e beside images
+fell_alone rules h e beside images legal none rests = rest_beside rules h e beside images legal none rests
 
 -- one that adds this entry did
-pub fell_beside : (rules now_rules : RuleSet) (h now : List Entry) (e : Payloads) (entry : Entry) (given : List ℕ) (it : Interrupted) (images : Areas → Type 0) → now_rules ≡ rules →
-    now ≡ h → it.entry ≡ entry → it.payload ≡ given → ((c : Areas) → images c → StandsFor rules h e entry given c) → KeepsDown now_rules now (Some it) images
-fell_beside rules now_rules h now e entry given it images same_rules same same_entry same_payload stands =
-    subst (λ (r : RuleSet). KeepsDown r now (Some it) images) (sym same_rules)
-    (subst (λ (l : List Entry). KeepsDown rules l (Some it) images) (sym same) (record {
-      payloads = e;
-      stands = λ c image.
-          subst (λ (x : Entry). StandsFor rules h e x it.payload c) (sym same_entry)
-          (subst (λ (p : List ℕ). StandsFor rules h e entry p c) (sym same_payload) (stands c image));
-    }))
-
--- fewer images, of the same rules and history
-pub down_among : (rules now_rules : RuleSet) (h now : List Entry) (beside : Option Interrupted) (images fewer : Areas → Type 0) → now_rules ≡ rules → now ≡ h →
-    ((c : Areas) → fewer c → images c) → KeepsDown rules h beside images → KeepsDown now_rules now beside fewer
-down_among rules now_rules h now beside images fewer same_rules same among kept =
-    subst (λ (r : RuleSet). KeepsDown r now beside fewer) (sym same_rules)
-    (subst (λ (l : List Entry). KeepsDown rules l beside fewer) (sym same) (record { payloads = kept.payloads; stands = λ c image. kept.stands c (among c image) }))
+pub fell_beside : (rules : RuleSet) (h : List Entry) (e : Payloads) (entry : Entry) (given : List ℕ) (it : Interrupted) (images : Areas → Type 0) →
+    it.entry ≡ entry → it.payload ≡ given → ((c : Areas) → images c → StandsFor rules h e entry given c) → KeepsDown rules h e (Some it) images
+fell_beside rules h e entry given it images same_entry same_payload stands = λ c image.
+    subst (λ (x : Entry). StandsFor rules h e x it.payload c) (sym same_entry)
+    (subst (λ (p : List ℕ). StandsFor rules h e entry p c) (sym same_payload) (stands c image))
 
 -- what a book tells of its disk, of what it keeps
-module _ {G R : Type 0} (seen : R → Areas) (may_leave : R → Areas → Type 0) (book : Booked G R) (legal : Legal book.rules book.history)
+module _ {G R : Type 0} (seen : R → Areas) (may_leave : R → Areas → Type 0) (book : Booked G R) (legal : Legal book.rules book.history) (opened : Areas)
     (up : book.down ≡ false → KeepsAreas book.rules book.history (seen book.rig) (may_leave book.rig)) (alone : book.down ≡ false → book.beside ≡ None)
-    (fell : book.down ≡ true → KeepsDown book.rules book.history book.beside (may_leave book.rig)) where
+    (fell : book.down ≡ true → KeepsDown book.rules book.history book.payloads book.beside (may_leave book.rig))
+    (kept : KeepsPayloads book.rules book.history book.payloads book.down (seen book.rig) opened) where
   holds_by : (down : Bool) → book.down ≡ down → Holds seen may_leave book
-  holds_by true is = let kept = fell is in record {
-    payloads = kept.payloads;
-    stands = kept.stands;
+  holds_by true is = record {
+    stands = fell is;
     rests = λ not. absurd (cc (not, is));
     clean = λ not. absurd (cc (not, is));
   }
-  holds_by false is = let kept = up is in let e = payloads_in (after book.rules book.history) (seen book.rig) in record {
-    payloads = e;
-    stands = rest_beside book.rules book.history e book.beside (may_leave book.rig) legal (alone is) kept.rests;
-    rests = λ same. kept.rests;
-    clean = λ same. kept.clean;
-  }
+  holds_by false is =
+      let areas = up is in
+      let rests = rests_with book.rules book.history book.payloads book.down (seen book.rig) opened is kept (may_leave book.rig) areas.rests in
+      record {
+        stands = rest_beside book.rules book.history book.payloads book.beside (may_leave book.rig) legal (alone is) rests;
+        rests = λ same. rests;
+        clean = λ same. areas.clean;
+      }
 
   pub holds_now : Holds seen may_leave book
   holds_now = holds_by book.down refl

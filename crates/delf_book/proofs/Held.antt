@@ -1,57 +1,88 @@
 -- The payloads that the records of a state hold.
-use Rattle.std.proofs.Common.{◌≡◌, ℕ, zero, suc, ◌<◌, Bool, true, false, cond, eqb, List, ◌∷◌, Some, None, refl, sym, ap, ◌∙◌, arith}
+use Rattle.std.proofs.Common.{◌≡◌, ℕ, zero, suc, ◌≤◌, ◌<◌, Bool, true, false, eqb, List, [], ◌∷◌, ◌++◌, Option, Some, None, refl, sym, ap, ◌∙◌, arith}
 use Rattle.std.proofs.lemmas.Bool.{eqb-true, eq-eqb, ne_eqb, cond-true, cond-false, false≢true}
-use Rattle.std.specs.Prelude.{find}
+use Rattle.std.proofs.lemmas.List.Elements.{filter-append}
+use Rattle.std.proofs.lemmas.List.Folds.{find-append}
+use Rattle.std.specs.Prelude.{find, filter}
+use Rattle.std.specs.Option.{option_or}
 use Rattle.delf_disk.specs.Areas.{Areas}
 use Rattle.gate_log.specs.Records.{Record}
 use Rattle.delf_model.specs.declared.entry.Entry.{Entry}
 use Rattle.delf_model.specs.RuleSet.{RuleSet}
-use Rattle.delf_model.specs.State.{State}
 use Rattle.delf_model.specs.Step.{after}
 use Rattle.delf_model.specs.Legal.{Legal}
-use Rattle.delf_model.specs.Payloads.{Payloads, is_needed, is_at, bytes_of_pair, last_carrier}
+use Rattle.delf_model.specs.Payloads.{Payloads, is_needed, is_at, bytes_of_pair}
 use Rattle.payload_laws.proofs.Moves.{payloads_held}
-use Rattle.store_laws.specs.Stores.{Spell, Hold, payload_in, journal_of, vault_of}
+use Rattle.store_laws.specs.Stores.{Spell, Hold, journal_of, vault_of}
 use Rattle.store_laws.specs.Moves.{RestIn}
-use Rattle.delf_book.specs.Keeping.{needed_pairs, payloads_in}
+use Rattle.delf_book.specs.Keeping.{pair_if, pairs_below, held_at, payloads_in}
 
-module _ (s : State) (journal vault : List Record) (p : ℕ) where
-  abbrev pair : ℕ × List ℕ
-  pair = (p, payload_in journal vault (last_carrier s p))
+-- what stands in a list of pairs by rising position
 
-  pair_found : (n : ℕ) → p < n → is_needed s p ≡ true → find (is_at p) (needed_pairs s journal vault n) ≡ Some pair
-  pair_found zero below needed = absurd (omega (arith, below))
-  pair_found (suc n) below needed = by_kept (λ apart. pair_found n (omega (arith, below, apart)) needed) (is_needed s n) refl
+pair_apart : (taken : Bool) (n p : ℕ) (bytes : List ℕ) → (n ≡ p → ⊥) → find (is_at p) (pair_if taken n bytes) ≡ None
+pair_apart true n p bytes apart = cond-false (eqb n p) (Some (n, bytes)) None (ne_eqb n p apart)
+pair_apart false n p bytes apart = refl
+
+module _ (taken : ℕ → Bool) (bytes : ℕ → List ℕ) where
+  -- none stands past the end
+  pub pairs_end : (p n : ℕ) → n ≤ p → find (is_at p) (pairs_below taken bytes n) ≡ None
+  pairs_end p zero past = refl
+  pairs_end p (suc n) past =
+      find-append (is_at p) (pairs_below taken bytes n) (pair_if (taken n) n (bytes n)) ∙
+      (ap (λ (o : Option (ℕ × List ℕ)). option_or o (find (is_at p) (pair_if (taken n) n (bytes n)))) (pairs_end p n (omega (arith, past))) ∙
+      pair_apart (taken n) n p (bytes n) (λ same. omega (arith, past, same)))
+
+  pub pair_found : (p n : ℕ) → p < n → taken p ≡ true → find (is_at p) (pairs_below taken bytes n) ≡ Some (p, bytes p)
+  pair_found p zero below is = absurd (omega (arith, below))
+  pair_found p (suc n) below is =
+      find-append (is_at p) (pairs_below taken bytes n) (pair_if (taken n) n (bytes n)) ∙ by_place (λ other. pair_found p n (omega (arith, below, other)) is) (eqb n p) refl
     where
-      here : n ≡ p → is_needed s n ≡ false → ⊥
-      here same not = false≢true (sym not ∙ (ap (is_needed s) same ∙ needed))
-
-      by_place : ((n ≡ p → ⊥) → find (is_at p) (needed_pairs s journal vault n) ≡ Some pair) → (b : Bool) → eqb n p ≡ b → find (is_at p) ((n, payload_in journal vault (last_carrier s n)) ∷ needed_pairs s journal vault n) ≡ Some pair
+      by_place : ((n ≡ p → ⊥) → find (is_at p) (pairs_below taken bytes n) ≡ Some (p, bytes p)) → (b : Bool) → eqb n p ≡ b → option_or (find (is_at p) (pairs_below taken bytes n)) (find (is_at p) (pair_if (taken n) n (bytes n))) ≡ Some (p, bytes p)
       by_place earlier true same =
-          cond-true (eqb n p) (Some (n, payload_in journal vault (last_carrier s n))) (find (is_at p) (needed_pairs s journal vault n)) same ∙
-          ap (λ (k : ℕ). Some (k, payload_in journal vault (last_carrier s k))) (eqb-true n p same)
+          let here : n ≡ p = eqb-true n p same in
+          ap (λ (o : Option (ℕ × List ℕ)). option_or o (find (is_at p) (pair_if (taken n) n (bytes n)))) (pairs_end p n (omega (arith, here))) ∙
+          (ap (λ (b : Bool). find (is_at p) (pair_if b n (bytes n))) (ap taken here ∙ is) ∙
+          (cond-true (eqb n p) (Some (n, bytes n)) None same ∙ ap (λ (k : ℕ). Some (k, bytes k)) here))
       by_place earlier false apart =
-          cond-false (eqb n p) (Some (n, payload_in journal vault (last_carrier s n))) (find (is_at p) (needed_pairs s journal vault n)) apart ∙
-          earlier (λ same. false≢true (sym apart ∙ eq-eqb n p same))
+          ap (λ (o : Option (ℕ × List ℕ)). option_or o (find (is_at p) (pair_if (taken n) n (bytes n)))) (earlier (λ same. false≢true (sym apart ∙ eq-eqb n p same)))
 
-      by_kept : ((n ≡ p → ⊥) → find (is_at p) (needed_pairs s journal vault n) ≡ Some pair) → (b : Bool) → is_needed s n ≡ b →
-          find (is_at p) (cond b ((n, payload_in journal vault (last_carrier s n)) ∷ needed_pairs s journal vault n) (needed_pairs s journal vault n)) ≡ Some pair
-      by_kept earlier true kept = by_place earlier (eqb n p) refl
-      by_kept earlier false dropped = earlier (λ same. here same dropped)
-
-  pair_none : (n : ℕ) → is_needed s p ≡ false → find (is_at p) (needed_pairs s journal vault n) ≡ None
-  pair_none zero unneeded = refl
-  pair_none (suc n) unneeded = by_kept (pair_none n unneeded) (is_needed s n) refl
+  pub pair_none : (p n : ℕ) → taken p ≡ false → find (is_at p) (pairs_below taken bytes n) ≡ None
+  pair_none p zero not = refl
+  pair_none p (suc n) not =
+      find-append (is_at p) (pairs_below taken bytes n) (pair_if (taken n) n (bytes n)) ∙
+      (ap (λ (o : Option (ℕ × List ℕ)). option_or o (find (is_at p) (pair_if (taken n) n (bytes n)))) (pair_none p n not) ∙ by_taken (taken n) refl)
     where
-      apart_by : is_needed s n ≡ true → n ≡ p → ⊥
-      apart_by kept same = false≢true (sym unneeded ∙ (ap (is_needed s) (sym same) ∙ kept))
+      by_taken : (b : Bool) → taken n ≡ b → find (is_at p) (pair_if b n (bytes n)) ≡ None
+      by_taken true is = pair_apart true n p (bytes n) (λ same. false≢true (sym not ∙ (ap taken (sym same) ∙ is)))
+      by_taken false is = refl
 
-      by_kept : find (is_at p) (needed_pairs s journal vault n) ≡ None → (b : Bool) → is_needed s n ≡ b →
-          find (is_at p) (cond b ((n, payload_in journal vault (last_carrier s n)) ∷ needed_pairs s journal vault n) (needed_pairs s journal vault n)) ≡ None
-      by_kept earlier true kept =
-          cond-false (eqb n p) (Some (n, payload_in journal vault (last_carrier s n))) (find (is_at p) (needed_pairs s journal vault n)) (ne_eqb n p (apart_by kept)) ∙
-          earlier
-      by_kept earlier false dropped = earlier
+-- the same bytes at each position that is taken
+pub pairs_same : (taken : ℕ → Bool) (one two : ℕ → List ℕ) (n : ℕ) → ((p : ℕ) → p < n → taken p ≡ true → one p ≡ two p) → pairs_below taken one n ≡ pairs_below taken two n
+pairs_same taken one two zero same = refl
+pairs_same taken one two (suc n) same =
+    ap (λ (l : List (ℕ × List ℕ)). l ++ pair_if (taken n) n (one n)) (pairs_same taken one two n (λ p below is. same p (omega (arith, below)) is)) ∙
+    ap (λ (l : List (ℕ × List ℕ)). pairs_below taken two n ++ l) (by_taken (taken n) refl)
+  where
+    by_taken : (b : Bool) → taken n ≡ b → pair_if b n (one n) ≡ pair_if b n (two n)
+    by_taken true is = ap (λ (l : List ℕ). (n, l) ∷ []) (same n (omega arith) is)
+    by_taken false is = refl
+
+-- fewer positions
+abbrev pub is_taken : (ℕ → Bool) → ℕ × List ℕ → Bool
+is_taken taken pair = taken pair.0
+
+pub pairs_kept : (taken now : ℕ → Bool) (bytes : ℕ → List ℕ) (n : ℕ) → ((p : ℕ) → p < n → now p ≡ true → taken p ≡ true) →
+    filter (is_taken now) (pairs_below taken bytes n) ≡ pairs_below now bytes n
+pairs_kept taken now bytes zero was = refl
+pairs_kept taken now bytes (suc n) was =
+    filter-append (is_taken now) (pairs_below taken bytes n) (pair_if (taken n) n (bytes n)) ∙
+    (ap (λ (l : List (ℕ × List ℕ)). l ++ filter (is_taken now) (pair_if (taken n) n (bytes n))) (pairs_kept taken now bytes n (λ p below is. was p (omega (arith, below)) is)) ∙
+    ap (λ (l : List (ℕ × List ℕ)). pairs_below now bytes n ++ l) (by_both (taken n) (now n) refl refl))
+  where
+    by_both : (b k : Bool) → taken n ≡ b → now n ≡ k → filter (is_taken now) (pair_if b n (bytes n)) ≡ pair_if (now n) n (bytes n)
+    by_both true k is kept = refl
+    by_both false true is kept = absurd (false≢true (sym is ∙ was n (omega arith) kept))
+    by_both false false is kept = ap (λ (b : Bool). pair_if b n (bytes n)) (sym kept)
 
 -- what reads holds the payloads that are read there
 pub holds_itself : (rules : RuleSet) (h : List Entry) (c : Areas) → Legal rules h → Spell rules h (journal_of c) (vault_of c) →
@@ -59,9 +90,11 @@ pub holds_itself : (rules : RuleSet) (h : List Entry) (c : Areas) → Legal rule
 unfolding payloads_in
 holds_itself rules h c legal spell = record {
   spell = spell;
-  reads = λ p needed. sym (ap bytes_of_pair (pair_found (after rules h) (journal_of c) (vault_of c) p (after rules h).len ((payloads_held rules h legal).held.below p needed) needed));
+  reads = λ p needed.
+      sym (ap bytes_of_pair (pair_found (is_needed (after rules h)) (held_at (after rules h) (journal_of c) (vault_of c)) p (after rules h).len
+      ((payloads_held rules h legal).held.below p needed) needed));
   seals = refl;
-  alone = λ p unneeded. pair_none (after rules h) (journal_of c) (vault_of c) p (after rules h).len unneeded;
+  alone = λ p unneeded. pair_none (is_needed (after rules h)) (held_at (after rules h) (journal_of c) (vault_of c)) p (after rules h).len unneeded;
 }
 
 -- records that hold one and the same payloads as others hold all that those hold

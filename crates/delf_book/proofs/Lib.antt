@@ -8,6 +8,7 @@ pub mod GoesBack
 pub mod Halts
 pub mod Held
 pub mod Lives
+pub mod Payloads
 pub mod Plainly
 pub mod PutBacks
 pub mod Remaining

@@ -107,3 +107,7 @@ room_lists n ledger journal vault now_journal now_vault carriers now_carriers ca
   in_vault = omega (arith, room.in_vault, two);
   in_carriers = omega (arith, room.in_carriers, ap length same, same_capacity);
 }
+
+-- what holds where memory was wanting
+pub starved_is : (P : Type 0) (f : EntryFault) → f ≡ OutOfMemory → UnlessFailed {T = Unit {0}} (Err f) P → P
+starved_is P f is fact = subst (λ (x : EntryFault). UnlessFailed {T = Unit {0}} (Err x) P) is fact

@@ -27,16 +27,18 @@ use Rattle.delf_book.specs.declared.answers.Receipt.{Receipt}
 use Rattle.delf_book.specs.declared.answers.BookFault.{BookFault}
 use Rattle.delf_book.specs.declared.answers.BookFault.TheVariants as fault
 
--- rules and history, the stored graph, how many further deletion steps need no memory, whether a disk fault was answered
--- and what may then stand beside the history, and the disk
+-- rules and history with its payloads, the stored graph, how many further deletion steps need no memory, whether a disk fault was
+-- answered and what may then stand beside the history, the disk, and the disk as it was at the opening
 pub record Booked (G R : Type 0) : Type 0 where
   pub rules : RuleSet
   pub history : List Entry
+  pub payloads : Payloads
   pub store : G
   pub spare : ℕ
   pub down : Bool
   pub beside : Option Interrupted
   pub rig : R
+  pub opened : R
 
 -- the state after the history
 abbrev pub state_in : {G R : Type 0} → Booked G R → State
@@ -104,23 +106,32 @@ pub record Grew {G R : Type 0} (old now : Booked G R) (entry : Entry) : Type 0 w
   pub history : now.history ≡ old.history ++ entry ∷ []
   pub up : now.down ≡ false
   pub beside : now.beside ≡ old.beside
+  pub opened : now.opened ≡ old.opened
+
+-- the payloads are those after an entry that was given these bytes
+abbrev pub PayloadsGrew : {G R : Type 0} → Booked G R → Booked G R → Entry → List ℕ → Type 0
+PayloadsGrew old now entry given = now.payloads ≡ payloads_after digest (state_in old) entry given old.payloads
 
 -- the disk is as it was, and so is all but the room
 pub record Stayed {G R : Type 0} (old now : Booked G R) : Type 0 where
   pub rules : now.rules ≡ old.rules
   pub history : now.history ≡ old.history
+  pub payloads : now.payloads ≡ old.payloads
   pub down : now.down ≡ old.down
   pub beside : now.beside ≡ old.beside
   pub spare : old.spare ≤ now.spare
   pub rig : now.rig ≡ old.rig
+  pub opened : now.opened ≡ old.opened
 
--- a disk fault: the history stays, the book is down, this may stand beside it, and no room is lost
+-- a disk fault: history and payloads stay, the book is down, this may stand beside it, and no room is lost
 pub record Fell {G R : Type 0} (old now : Booked G R) (beside : Option Interrupted) : Type 0 where
   pub rules : now.rules ≡ old.rules
   pub history : now.history ≡ old.history
+  pub payloads : now.payloads ≡ old.payloads
   pub down : now.down ≡ true
   pub is_beside : now.beside ≡ beside
   pub spare : old.spare ≤ now.spare
+  pub opened : now.opened ≡ old.opened
 
 -- a call was accepted: the entry is what the call asks for
 pub record Accepted {G R : Type 0} (old now : Booked G R) (moment seat : ℕ) (asked : Call) (receipt : Receipt) : Type 0 where
@@ -152,6 +163,12 @@ Answers old now moment seat asked (Err refusal.OutOfMemory) = (old.down ≡ fals
 Answers old now moment seat asked (Err (refusal.DiskFault len)) = Interrupts old now moment seat asked len
 Answers old now moment seat asked (Err refusal) =
     (old.down ≡ false) × (reply (state_in old) moment seat asked ≡ Err refusal) × (now ≡ old)
+
+-- an accepted call adds the payload that it brings, and any other leaves them, as `Answers` says
+abbrev pub CallPayloads : {G R : Type 0} → Booked G R → Booked G R → ℕ → ℕ → Call → Result Receipt Refusal → Type 0
+CallPayloads old now moment seat asked (Ok receipt) =
+    (what : What) → reply (state_in old) moment seat asked ≡ Ok what → PayloadsGrew old now (record { moment = moment; what = what }) (given_by asked)
+CallPayloads old now moment seat asked (Err refusal) = Unit {0}
 
 -- the count of faults stays, but where a disk fault is answered, where it rises
 

@@ -1,8 +1,9 @@
 -- What a book keeps of its logs and its disk.
-use Rattle.std.specs.Prelude.{◌≡◌, ℕ, zero, suc, ◌+◌, ◌≤◌, Bool, true, false, cond, List, [], ◌∷◌, Option, Some, None, length, map, slice_get}
+use Rattle.std.specs.Prelude.{◌≡◌, ℕ, zero, suc, ◌+◌, ◌≤◌, Bool, true, false, cond, List, [], ◌∷◌, ◌++◌, Option, Some, None, length, map, slice_get}
 use Rattle.delf_disk.specs.declared.area.Area.TheVariants as area
 use Rattle.delf_disk.specs.Areas.{Areas}
-use Rattle.delf_disk.specs.Plain.{Plain}
+use Rattle.delf_disk.specs.Causes.{Rose}
+use Rattle.delf_disk.specs.Plain.{Plain, SameTelling}
 use Rattle.gate_log.specs.Records.{Record}
 use Rattle.gate_log.specs.View.{LogView}
 use Rattle.entry_codec.specs.EntryHead.{entry_head}
@@ -17,10 +18,10 @@ use Rattle.delf_model.specs.Step.{step, after}
 use Rattle.delf_model.specs.Puts.{judged}
 use Rattle.delf_model.specs.Payloads.{Payloads, is_needed, last_carrier, Journal}
 use Rattle.payload_laws.specs.Holders.{record_size}
-use Rattle.store_laws.specs.Stores.{Clean, payload_in, seals_of, journal_of, vault_of}
+use Rattle.store_laws.specs.Stores.{Clean, AreSealed, payload_in, seals_of, journal_of, vault_of}
 use Rattle.store_laws.specs.Moves.{RestIn}
 use Rattle.delf_book.specs.Parts.{Interrupted}
-use Rattle.delf_book.specs.Holding.{StandsBeside}
+use Rattle.delf_book.specs.Holding.{StandsBeside, StandWhole}
 
 -- the lengths of the heads and payloads of the journal records of a history
 abbrev pub journal_sizes : State → List Entry → List (ℕ × ℕ)
@@ -51,16 +52,23 @@ pub record KeepsCarriers (rules : RuleSet) (history : List Entry) (carriers : Li
   pub carried : (p q : ℕ) → is_needed (after rules history) p ≡ true → last_carrier (after rules history) p ≡ Journal q
       → slice_get carriers p ≡ Some q
 
--- the payloads that the records of a state hold, at the needed positions below a number
+-- at the positions below a number that a test takes, by rising position, the bytes that a function gives
 
-abbrev pub needed_pairs : State → List Record → List Record → ℕ → List (ℕ × List ℕ)
-needed_pairs s journal vault zero = []
-needed_pairs s journal vault (suc n) =
-    cond (is_needed s n) ((n, payload_in journal vault (last_carrier s n)) ∷ needed_pairs s journal vault n) (needed_pairs s journal vault n)
+abbrev pub pair_if : Bool → ℕ → List ℕ → List (ℕ × List ℕ)
+pair_if taken p bytes = cond taken ((p, bytes) ∷ []) []
 
+abbrev pub pairs_below : (ℕ → Bool) → (ℕ → List ℕ) → ℕ → List (ℕ × List ℕ)
+pairs_below taken bytes zero = []
+pairs_below taken bytes (suc n) = pairs_below taken bytes n ++ pair_if (taken n) n (bytes n)
+
+-- the payload that the records of a state hold at a position
+abbrev pub held_at : State → List Record → List Record → ℕ → List ℕ
+held_at s journal vault p = payload_in journal vault (last_carrier s p)
+
+-- the payloads that areas hold for a state
 unfoldable pub payloads_in : State → Areas → Payloads
 payloads_in s areas = record {
-  bytes = needed_pairs s (journal_of areas) (vault_of areas) s.len;
+  bytes = pairs_below (is_needed s) (held_at s (journal_of areas) (vault_of areas)) s.len;
   seals = seals_of (vault_of areas);
 }
 
@@ -81,9 +89,19 @@ pub record KeepsUp (rules : RuleSet) (history : List Entry) (spare ledger : ℕ)
   pub areas : Plain told honest → KeepsAreas rules history seen may_leave
 
 -- of a book that is down: each image stands for the history, or for it with what is beside it
-pub record KeepsDown (rules : RuleSet) (history : List Entry) (beside : Option Interrupted) (images : Areas → Type 0) : Type 0 where
-  pub payloads : Payloads
-  pub stands : (c : Areas) → images c → StandsBeside rules history payloads beside c
+abbrev pub KeepsDown : RuleSet → List Entry → Payloads → Option Interrupted → (Areas → Type 0) → Type 0
+KeepsDown rules history e beside images = (c : Areas) → images c → StandsBeside rules history e beside c
+
+-- while a book is up, its payloads are those that read; and where the areas stood whole at the opening, they are what was sealed
+pub record KeepsPayloads (rules : RuleSet) (history : List Entry) (e : Payloads) (down : Bool) (seen opened : Areas) : Type 0 where
+  pub reads : down ≡ false → e ≡ payloads_in (after rules history) seen
+  pub sealed : StandWhole rules opened → AreSealed rules history e
+
+-- the disk is of the kind that it was at the opening, and its count of faults never fell, and rose where the book is down
+pub record KeepsOpening {R : Type 0} (told honest : R → Bool) (faults : R → ℕ) (down : Bool) (opened now : R) : Type 0 where
+  pub telling : SameTelling told honest opened now
+  pub later : faults opened ≤ faults now
+  pub rose : down ≡ true → Rose (faults opened) (faults now)
 
 -- an entry that scrubs at most the payload of the row that it takes or rewrites
 abbrev pub scrubs_rows : What → Bool

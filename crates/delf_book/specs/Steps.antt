@@ -12,7 +12,7 @@ use Rattle.delf_model.specs.Order.{first_step}
 use Rattle.delf_model.specs.Payloads.{Payloads, payload_at}
 use Rattle.store_laws.specs.Stores.{digest}
 use Rattle.store_laws.specs.Moves.{RestIn}
-use Rattle.delf_book.specs.Books.{Booked, state_in, is_reserved, Grew, Stayed, Fell, WasDown, IsCrashSafe, IsDurable}
+use Rattle.delf_book.specs.Books.{Booked, state_in, is_reserved, Grew, PayloadsGrew, Stayed, Fell, WasDown, IsCrashSafe, IsDurable}
 use Rattle.delf_book.specs.Writing.{Rests}
 use Rattle.delf_book.specs.declared.answers.Worked.{Worked}
 use Rattle.delf_book.specs.declared.answers.Worked.TheVariants as worked
@@ -83,6 +83,13 @@ StepAnswers old now moment (Err (fault.Down len)) = WasDown old now len
 StepAnswers old now moment (Err fault.OutOfMemory) = LacksMemory old now moment
 StepAnswers old now moment (Err (fault.DiskFault len)) = InterruptsStep old now moment len
 StepAnswers old now moment (Err (fault.Damaged item stored found)) = MeetsDamage old now moment item stored found
+
+-- a step that is made brings no payload, and any other answer leaves them, as `StepAnswers` says
+abbrev pub StepPayloads : {G R : Type 0} → Booked G R → Booked G R → ℕ → Result Worked StepFault → Type 0
+StepPayloads old now moment (Ok (worked.Stepped position)) =
+    (what : What) → first_step (state_in old) moment ≡ Some what → PayloadsGrew old now (step_entry moment what) []
+StepPayloads old now moment (Ok (worked.Idle len)) = Unit {0}
+StepPayloads old now moment (Err fault) = Unit {0}
 
 -- what is put back is what was sealed, whatever payloads stood
 abbrev pub PutsSealed : State → What → Payloads → Type 0

@@ -1,6 +1,7 @@
-ghost use Rattle.std.specs.Prelude.{◌≡◌, ◌≤◌, false, None, length, nat_eq, IfSome};
+ghost use Rattle.std.specs.Prelude.{◌≡◌, ◌≤◌, true, false, None, length, nat_eq, IfSome};
 ghost use Rattle.delf_disk.specs.declared.area.Order.TheVariants.{FailAfter};
 ghost use Rattle.delf_disk.specs.Areas.{Areas};
+ghost use Rattle.delf_disk.specs.Causes.{Rose};
 ghost use Rattle.delf_disk.specs.Plain.{Plain, SameTelling, NextCount};
 ghost use Rattle.delf_disk.specs.Images.{Moves, Same};
 ghost use Rattle.entry_codec.specs.EntryHead.{AreEntries, IsEntry};
@@ -12,7 +13,8 @@ ghost use Rattle.delf_model.specs.Report.{status as status_of, job_at as line_at
 ghost use Rattle.job_table.specs.Table.{IsGraphOf, top_seat as greatest_seat};
 ghost use Rattle.ledger.specs.Ledgers.{found};
 ghost use Rattle.delf_book.specs.Books.{state_in};
-ghost use Rattle.delf_book.specs.Holding.{Holds};
+ghost use Rattle.store_laws.specs.Stores.{AreSealed};
+ghost use Rattle.delf_book.specs.Holding.{Holds, StandWhole};
 
 use crate::beside::Beside;
 use crate::logs::Logs;
@@ -21,6 +23,7 @@ use delf_model::{GraphStore, Job, JobLine, JobName, Listed, ObjectId, ObjectRow,
 use history_laws::legal_is_sound;
 use ledger::Ledger;
 use std::marker::Model;
+use std::snapshot::Snapshot;
 
 /// A history with the disk that holds it: each accepted call and each step is one entry more.
 ///
@@ -33,6 +36,9 @@ pub struct Book<G: GraphStore, R: Rig> {
     pub(crate) spare: u32,
     pub(crate) down: bool,
     pub(crate) beside: Option<Beside>,
+    // The disk as it was after the last entry, and at the opening.
+    pub(crate) rested: Snapshot<R>,
+    pub(crate) opened: Snapshot<R>,
     pub(crate) rig: R,
 }
 
@@ -40,15 +46,18 @@ impl<G: GraphStore, R: Rig> Model for Book<G, R> {
     ghost use Rattle.std.specs.Prelude.{◌≡◌, true, false, None, vec_capacity};
     ghost use Rattle.delf_disk.specs.Plain.{Plain};
     ghost use Rattle.delf_book.specs.Books.{Booked};
-    ghost use Rattle.delf_book.specs.Keeping.{KeepsUp, KeepsDown};
+    ghost use Rattle.delf_model.specs.Step.{after};
+    ghost use Rattle.delf_book.specs.Keeping.{KeepsUp, KeepsDown, KeepsPayloads, KeepsOpening, payloads_in};
 
     ghost Value = { Booked G R };
 
-    ghost view = { λ b. record { rules = b.ledger.rules; history = b.ledger.history; store = b.ledger.store; spare = b.spare; down = b.down; beside = b.beside; rig = b.rig } };
+    ghost view = { λ b. record { rules = b.ledger.rules; history = b.ledger.history; payloads = payloads_in (after b.ledger.rules b.ledger.history) (R.Disk.seen b.rested.value); store = b.ledger.store; spare = b.spare; down = b.down; beside = b.beside; rig = b.rig; opened = b.opened.value } };
 
     ghost invariant = { λ b. (b.down ≡ false → KeepsUp b.ledger.rules b.ledger.history b.spare b.ledger.spare b.logs.journal b.logs.vault b.logs.carriers.items (vec_capacity b.logs.carriers) (R.Disk.told b.rig) (R.Disk.honest b.rig) (R.Disk.seen b.rig) (R.Disk.may_leave b.rig))
         × (b.down ≡ false → b.beside ≡ None)
-        × (b.down ≡ true → Plain (R.Disk.told b.rig) (R.Disk.honest b.rig) → KeepsDown b.ledger.rules b.ledger.history b.beside (R.Disk.may_leave b.rig)) };
+        × (b.down ≡ true → Plain (R.Disk.told b.rig) (R.Disk.honest b.rig) → KeepsDown b.ledger.rules b.ledger.history (payloads_in (after b.ledger.rules b.ledger.history) (R.Disk.seen b.rested.value)) b.beside (R.Disk.may_leave b.rig))
+        × (Plain (R.Disk.told b.rig) (R.Disk.honest b.rig) → KeepsPayloads b.ledger.rules b.ledger.history (payloads_in (after b.ledger.rules b.ledger.history) (R.Disk.seen b.rested.value)) b.down (R.Disk.seen b.rig) (R.Disk.seen b.opened.value))
+        × KeepsOpening R.Disk.told R.Disk.honest R.Disk.faults b.down b.opened.value b.rig };
 }
 
 impl<G: GraphStore, R: Rig> Book<G, R> {
@@ -101,12 +110,19 @@ impl<G: GraphStore, R: Rig> Book<G, R> {
         self.down
     }
 
-    /// Tells what the disk holds. Each image stands for the history and one payload state, or while the book is down, for
-    /// that or for it with the entry beside it. While it is up nothing is beside it, and both areas hold nothing more but
-    /// closed tails.
+    /// Tells what the disk holds. Each image stands for the history and its payloads, or while the book is down, for
+    /// those or for them with the entry beside them. While it is up nothing is beside it, and both areas hold nothing more
+    /// but closed tails. Where they stood whole at the opening, each payload that the restoration log carries is the one
+    /// that was sealed.
     pub fn standing(&self)
         ensures alone { self.now.down ≡ false → self.now.beside ≡ None }
         ensures holds { Plain (R.Disk.told self.now.rig) (R.Disk.honest self.now.rig) → Holds R.Disk.seen R.Disk.may_leave self.now }
+        ensures sealed { Plain (R.Disk.told self.now.rig) (R.Disk.honest self.now.rig) → StandWhole self.now.rules (R.Disk.seen self.now.opened)
+            → AreSealed self.now.rules self.now.history self.now.payloads }
+        // The disk is of the kind that it was at the opening, and only a book that met a fault is down.
+        ensures telling { SameTelling R.Disk.told R.Disk.honest self.now.opened self.now.rig }
+        ensures later { R.Disk.faults self.now.opened ≤ R.Disk.faults self.now.rig }
+        ensures fell { self.now.down ≡ true → Rose (R.Disk.faults self.now.opened) (R.Disk.faults self.now.rig) }
     {
         // The length tells that the history is legal.
         let _len = self.ledger.len();
@@ -203,6 +219,8 @@ impl<G: GraphStore + Drop, R: Rig> Book<G, R> {
             spare: _,
             down: _,
             beside: _,
+            rested: _,
+            opened: _,
             rig,
         } = self;
         rig

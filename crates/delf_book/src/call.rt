@@ -2,7 +2,7 @@
 ghost use Rattle.std.specs.Prelude.{◌+◌, ◌*◌, ◌≤◌, length};
 ghost use Rattle.delf_disk.specs.Plain.{Plain, SameKind};
 ghost use Rattle.delf_model.specs.Room.{moment_of};
-ghost use Rattle.delf_book.specs.Books.{Answers, CallIsSafe, CountsRefusal, HasNumbers, state_in};
+ghost use Rattle.delf_book.specs.Books.{Answers, CallIsSafe, CallPayloads, CountsRefusal, HasNumbers, state_in};
 ghost use Rattle.delf_book.specs.Seals.{CallKeepsSeals};
 
 use crate::answers::Receipt;
@@ -14,6 +14,7 @@ use crate::receipts::{payload_of, receipt_of};
 use delf_disk::Rig;
 use delf_model::{Call, Entry, GraphStore, Moment, Refusal};
 use ledger::moment_at;
+use std::snapshot::Snapshot;
 
 impl<G: GraphStore, R: Rig> Book<G, R> {
     /// Makes a writing call of this seat, where the clock says `now`.
@@ -21,6 +22,8 @@ impl<G: GraphStore, R: Rig> Book<G, R> {
         requires numbers { HasNumbers self.old.rules call.now }
         requires seat { seat ≤ 64 * (length self.old.history + 1) }
         ensures answer { Answers self.old self.new (moment_of (state_in self.old) now) seat call.now result }
+        ensures payloads { Plain (R.Disk.told self.old.rig) (R.Disk.honest self.old.rig)
+            → CallPayloads self.old self.new (moment_of (state_in self.old) now) seat call.now result }
         ensures crash { Plain (R.Disk.told self.old.rig) (R.Disk.honest self.old.rig)
             → CallIsSafe R.Disk.moment R.Disk.may_leave R.Disk.left_since self.old self.new (moment_of (state_in self.old) now) seat call.now result }
         ensures seals { Plain (R.Disk.told self.old.rig) (R.Disk.honest self.old.rig)
@@ -46,7 +49,11 @@ impl<G: GraphStore, R: Rig> Book<G, R> {
             &entry,
             payload,
         ) {
-            Ok(()) => Ok(receipt),
+            Ok(()) => {
+                let rested = Snapshot::of(&self.rig);
+                self.rested = rested;
+                Ok(receipt)
+            }
             Err(EntryFault::OutOfMemory) => Err(Refusal::OutOfMemory),
             Err(EntryFault::Failed) => {
                 self.down = true;

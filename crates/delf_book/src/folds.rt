@@ -3,7 +3,7 @@ ghost use Rattle.delf_disk.specs.Plain.{Plain};
 ghost use Rattle.entry_codec.specs.EntryHead.{AreEntries};
 ghost use Rattle.delf_model.specs.Legal.{Legal, is_legal};
 ghost use Rattle.job_table.specs.Table.{IsGraphOf, item_at as item_of};
-ghost use Rattle.delf_book.specs.Keeping.{KeepsLogs, KeepsAreas};
+ghost use Rattle.delf_book.specs.Keeping.{KeepsLogs, KeepsAreas, payloads_in};
 ghost use Rattle.ledger.specs.Ledgers.{state_of, record_size, IsSame, HasEntered};
 ghost use Rattle.delf_book.specs.Reads.{TellsLive};
 
@@ -16,6 +16,7 @@ use gate_log::GateLog;
 use ledger::Ledger;
 use std::alloc::AllocError;
 use std::marker::Model;
+use std::snapshot::Snapshot;
 use vault::Vault;
 
 /// A book without its disk that is made entry by entry, from records whose entries may not be legal. It is seen as a
@@ -111,8 +112,14 @@ impl<G: GraphStore> Fold<G> {
         ensures up { result.down ≡ false }
         ensures beside { result.beside ≡ None }
         ensures rig { result.rig ≡ rig }
+        ensures opened { result.opened ≡ rig }
+        ensures payloads { result.payloads ≡ payloads_in (state_of self) (R.Disk.seen rig) }
     {
         let Fold { ledger, carriers } = self;
+        // The length tells that the history is legal.
+        let _len = ledger.len();
+        let rested = Snapshot::of(&rig);
+        let opened = Snapshot::of(&rig);
         Book {
             ledger,
             logs: Logs {
@@ -123,6 +130,8 @@ impl<G: GraphStore> Fold<G> {
             spare: 0,
             down: false,
             beside: None,
+            rested,
+            opened,
             rig,
         }
     }

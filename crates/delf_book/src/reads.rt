@@ -27,6 +27,8 @@ impl<G: GraphStore, R: Rig> Book<G, R> {
         ensures payload { IfOk result (λ n. Plain (R.Disk.told self.old.rig) (R.Disk.honest self.old.rig) → (e : Payloads)
             → RestIn self.old.rules self.old.history e (R.Disk.may_leave self.old.rig) → (at : ℕ)
             → IsObjectAt (object_at (state_in self.old).graph id) at n → take n buf.new ≡ payload_at e at) }
+        ensures reads { IfOk result (λ n. Plain (R.Disk.told self.old.rig) (R.Disk.honest self.old.rig) → (at : ℕ)
+            → IsObjectAt (object_at (state_in self.old).graph id) at n → take n buf.new ≡ payload_at self.old.payloads at) }
         ensures rest { IfOk result (λ n. drop n buf.new ≡ drop n buf.old) }
         ensures crash { Plain (R.Disk.told self.old.rig) (R.Disk.honest self.old.rig) → self.old.down ≡ false → (e : Payloads)
             → RestIn self.old.rules self.old.history e (R.Disk.may_leave self.old.rig)
@@ -59,6 +61,8 @@ impl<G: GraphStore, R: Rig> Book<G, R> {
         ensures payload { IfOk result (λ n. Plain (R.Disk.told self.old.rig) (R.Disk.honest self.old.rig) → (e : Payloads)
             → RestIn self.old.rules self.old.history e (R.Disk.may_leave self.old.rig) → (at : ℕ)
             → IsEdgeAt (edge_at (state_in self.old).graph key) at n → take n buf.new ≡ payload_at e at) }
+        ensures reads { IfOk result (λ n. Plain (R.Disk.told self.old.rig) (R.Disk.honest self.old.rig) → (at : ℕ)
+            → IsEdgeAt (edge_at (state_in self.old).graph key) at n → take n buf.new ≡ payload_at self.old.payloads at) }
         ensures rest { IfOk result (λ n. drop n buf.new ≡ drop n buf.old) }
         ensures crash { Plain (R.Disk.told self.old.rig) (R.Disk.honest self.old.rig) → self.old.down ≡ false → (e : Payloads)
             → RestIn self.old.rules self.old.history e (R.Disk.may_leave self.old.rig)

@@ -5,7 +5,7 @@ ghost use Rattle.delf_model.specs.Room.{moment_of};
 ghost use Rattle.delf_model.specs.Sound.{FirstIsLegal};
 ghost use Rattle.delf_book.specs.Books.{state_in};
 ghost use Rattle.delf_book.specs.Seals.{StepKeepsSeals};
-ghost use Rattle.delf_book.specs.Steps.{StepAnswers, StepIsSafe, CountsStep};
+ghost use Rattle.delf_book.specs.Steps.{StepAnswers, StepIsSafe, StepPayloads, CountsStep};
 
 use crate::answers::{StepFault, Worked};
 use crate::beside::Beside;
@@ -14,6 +14,7 @@ use crate::stepping::{Halt, step};
 use delf_disk::Rig;
 use delf_model::{Entry, GraphStore, Moment};
 use ledger::moment_at;
+use std::snapshot::Snapshot;
 
 impl<G: GraphStore, R: Rig> Book<G, R> {
     /// Makes the first step of the serial order, where the clock says `now`: an expiry, a cut, an erasure, a put or a
@@ -22,6 +23,8 @@ impl<G: GraphStore, R: Rig> Book<G, R> {
     pub fn work(&mut self, now: Moment) -> Result<Worked, StepFault>
         ensures answer { StepAnswers self.old self.new (moment_of (state_in self.old) now) result }
         ensures order { self.old.down ≡ false → FirstIsLegal (state_in self.old) (moment_of (state_in self.old) now) }
+        ensures payloads { Plain (R.Disk.told self.old.rig) (R.Disk.honest self.old.rig)
+            → StepPayloads self.old self.new (moment_of (state_in self.old) now) result }
         ensures crash { Plain (R.Disk.told self.old.rig) (R.Disk.honest self.old.rig)
             → StepIsSafe R.Disk.moment R.Disk.may_leave R.Disk.left_since self.old self.new (moment_of (state_in self.old) now) result }
         ensures seals { Plain (R.Disk.told self.old.rig) (R.Disk.honest self.old.rig)
@@ -47,6 +50,8 @@ impl<G: GraphStore, R: Rig> Book<G, R> {
         ) {
             Ok(left) => {
                 self.spare = left;
+                let rested = Snapshot::of(&self.rig);
+                self.rested = rested;
                 Ok(Worked::Stepped { position: len })
             }
             Err(Halt::OutOfMemory) => Err(StepFault::OutOfMemory),

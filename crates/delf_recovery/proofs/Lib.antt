@@ -9,3 +9,4 @@ mod DeadPayloads
 mod Mended
 mod Spelled
 mod Faults
+mod Wholes

@@ -12,7 +12,9 @@ ghost use Rattle.delf_model.specs.Payloads.{Payloads};
 ghost use Rattle.delf_model.specs.Sound.{Sound};
 ghost use Rattle.store_laws.specs.Stores.{StandBut, Clean};
 ghost use Rattle.store_laws.specs.Moves.{RestIn};
+ghost use Rattle.opening_laws.specs.Entries.{SamePayloads};
 ghost use Rattle.opening_laws.specs.Places.{BadPlace};
+ghost use Rattle.delf_book.specs.Holding.{StandWhole};
 ghost use Rattle.delf_recovery.specs.Opening.{rig_in, StandsNow, IsNotBad, IsBadAt, OnlyBad, StaysUnwritten, CountsOpening};
 
 use crate::fault::OpenFault;
@@ -50,6 +52,12 @@ pub fn open_book<G: GraphStore + Drop, R: Rig>(
     ensures opened { IfOk result (λ book. Plain (R.Disk.told rig) (R.Disk.honest rig) → (history : List Entry) (e : Payloads)
         → StandBut rules history e (R.Disk.seen rig)
         → (book.history ≡ history) × RestIn rules history e (R.Disk.may_leave book.rig)) }
+    // And its payloads are those, seals included where the store stood whole.
+    ensures payloads { IfOk result (λ book. Plain (R.Disk.told rig) (R.Disk.honest rig) → (history : List Entry) (e : Payloads)
+        → StandBut rules history e (R.Disk.seen rig) → SamePayloads book.payloads e) }
+    ensures whole { IfOk result (λ book. Plain (R.Disk.told rig) (R.Disk.honest rig)
+        → StandWhole rules (R.Disk.seen rig) → StandWhole book.rules (R.Disk.seen book.opened)) }
+    ensures at_opening { IfOk result (λ book. book.opened ≡ book.rig) }
     // No payload is left that is not needed, but behind closed gates.
     ensures clean { IfOk result (λ book. Plain (R.Disk.told rig) (R.Disk.honest rig) → (c : Areas)
         → R.Disk.may_leave book.rig c → Clean rules book.history c) }

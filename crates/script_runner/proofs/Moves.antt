@@ -77,9 +77,11 @@ fell_then : {G R : Type 0} → (a b c : Booked G R) → OnlyRig a b → Fell b c
 fell_then {G} {R} a b c only fell = subst (λ (x : Booked G R). Fell x c x.beside) (ap (λ (x : Booked G R). record x { rig = a.rig }) only) (record {
   rules = fell.rules;
   history = fell.history;
+  payloads = fell.payloads;
   down = fell.down;
   is_beside = fell.is_beside;
   spare = fell.spare;
+  opened = fell.opened;
 })
 
 pub dropped_then : {G R : Type 0} → (told honest : R → Bool) (may_leave : R → Areas → Type 0) (order : R → Order) (orders faults : R → ℕ) (a b c : Booked G R) (len : ℕ) →
@@ -137,7 +139,7 @@ reads_fell : {G R : Type 0} → (told honest : R → Bool) (may_leave : R → Ar
     text ≡ down_text len → Plain (told old.rig) (honest old.rig) → ReadsOut may_leave faults said old now text
 reads_fell {G} {R} told honest may_leave order orders faults old now said text len up legal d is plain = λ clock e stands.
     let alone : old.beside ≡ None = stands.alone up in
-    let fell : Fell old now None = record { rules = d.fell.rules; history = d.fell.history; down = d.fell.down; is_beside = d.fell.is_beside ∙ alone; spare = d.fell.spare } in
+    let fell : Fell old now None = record { rules = d.fell.rules; history = d.fell.history; payloads = d.fell.payloads; down = d.fell.down; is_beside = d.fell.is_beside ∙ alone; spare = d.fell.spare; opened = d.fell.opened } in
     record {
       reads = serial.Reads.Falls up d.rose (is ∙ ap down_text d.length_is) (fell_world old now clock e None fell);
       stands = fell_stands old now clock e None (may_leave now.rig) fell

@@ -7,6 +7,7 @@ use Rattle.delf_book.specs.Books.{Booked}
 use Rattle.delf_book.specs.Keeping.{payloads_in}
 use Rattle.delf_book.proofs.Fallen.{fell_alone}
 use Rattle.delf_book.proofs.Held.{rest_as_read}
+use Rattle.delf_book.proofs.Payloads.{rests_with, keeps_still, keeps_fallen, opening_still, opening_fell}
 use Rattle.delf_book.proofs.Plainly.{keeps_same, room_lists}
 use Rattle.delf_book.proofs.Sizes.{journal_in, vault_in}
 use Rattle.delf_book.proofs.Callings.{settle_safe}
@@ -28,7 +29,7 @@ settle_areas-requires-clause-vault_stands g c = λ plain.
 
 pub returns-in-Ok-clause-crash : goal.returns-in-Ok-clause-crash
 returns-in-Ok-clause-crash g c = λ plain up e rests.
-    let view : Booked g.row.G.Denot g.row.R.Denot = (record { rules = c.self.inside.ledger.rules; history = c.self.inside.ledger.history; store = c.self.inside.ledger.store; spare = c.self.inside.spare; down = c.self.inside.down; beside = c.self.inside.beside; rig = c.self.inside.rig }) in
+    let view : Booked g.row.G.Denot g.row.R.Denot = (record { rules = c.self.inside.ledger.rules; history = c.self.inside.ledger.history; payloads = payloads_in (after c.self.inside.ledger.rules c.self.inside.ledger.history) (g.R.Disk.seen c.self.inside.rested.value); store = c.self.inside.ledger.store; spare = c.self.inside.spare; down = c.self.inside.down; beside = c.self.inside.beside; rig = c.self.inside.rig; opened = c.self.inside.opened.value }) in
     let here : Plain (g.R.Disk.told c.self.inside.rig) (g.R.Disk.honest c.self.inside.rig) =
     subst (λ (b : Booked g.row.G.Denot g.row.R.Denot). Plain (g.R.Disk.told b.rig) (g.R.Disk.honest b.rig)) (sym c.self.view_is) plain in
     settle_safe view c.args.self.now c.self.view_is c.settle_areas.new.disk g.R.Disk.moment g.R.Disk.may_leave g.R.Disk.left_since
@@ -36,7 +37,7 @@ returns-in-Ok-clause-crash g c = λ plain up e rests.
 
 pub returns-in-Err-clause-crash : goal.returns-in-Err-clause-crash
 returns-in-Err-clause-crash g c = λ plain up e rests.
-    let view : Booked g.row.G.Denot g.row.R.Denot = (record { rules = c.self.inside.ledger.rules; history = c.self.inside.ledger.history; store = c.self.inside.ledger.store; spare = c.self.inside.spare; down = c.self.inside.down; beside = c.self.inside.beside; rig = c.self.inside.rig }) in
+    let view : Booked g.row.G.Denot g.row.R.Denot = (record { rules = c.self.inside.ledger.rules; history = c.self.inside.ledger.history; payloads = payloads_in (after c.self.inside.ledger.rules c.self.inside.ledger.history) (g.R.Disk.seen c.self.inside.rested.value); store = c.self.inside.ledger.store; spare = c.self.inside.spare; down = c.self.inside.down; beside = c.self.inside.beside; rig = c.self.inside.rig; opened = c.self.inside.opened.value }) in
     let here : Plain (g.R.Disk.told c.self.inside.rig) (g.R.Disk.honest c.self.inside.rig) =
     subst (λ (b : Booked g.row.G.Denot g.row.R.Denot). Plain (g.R.Disk.told b.rig) (g.R.Disk.honest b.rig)) (sym c.self.view_is) plain in
     settle_safe view c.args.self.now c.self.view_is c.settle_areas.new.disk g.R.Disk.moment g.R.Disk.may_leave g.R.Disk.left_since
@@ -78,6 +79,15 @@ invariant_of-self g c = (
       },
   c.self.invariant.1,
   λ down plain. absurd (cc (down, c.if-self.false)),
+  λ plain.
+      let l = c.self.inside.ledger in
+      let here = was_plain c.settle_areas.ensures.kind plain in
+      let e = payloads_in (after l.rules l.history) (g.R.Disk.seen c.self.inside.rig) in
+      let now = g.R.Disk.seen c.settle_areas.new.disk in
+      keeps_still l.rules l.history (payloads_in (after l.rules l.history) (g.R.Disk.seen c.self.inside.rested.value)) c.self.inside.down (g.R.Disk.seen c.self.inside.rig)
+      (g.R.Disk.seen c.self.inside.opened.value) c.if-self.false (c.self.invariant.3 here) now
+      ((c.settle_areas.ensures.crash here l.rules l.history e ((c.self.invariant.0 c.if-self.false).areas here).rests).now now (g.met.R.Disk.reads_as_image c.settle_areas.new.disk plain)).1,
+  opening_still c.self.invariant.4 c.settle_areas.ensures.kind c.in-Ok.ensures.cause.stays,
 )
 
 pub invariant_of-self-in-Err : goal.invariant_of-self-in-Err
@@ -87,8 +97,14 @@ invariant_of-self-in-Err g c = (
   λ down plain.
       let l = c.self.inside.ledger in
       let here = was_plain c.settle_areas.ensures.kind plain in
-      let kept = (c.self.invariant.0 c.if-self.false).areas here in
-      let e = payloads_in (after l.rules l.history) (g.R.Disk.seen c.self.inside.rig) in
+      let e = payloads_in (after l.rules l.history) (g.R.Disk.seen c.self.inside.rested.value) in
+      let rests = rests_with l.rules l.history e c.self.inside.down (g.R.Disk.seen c.self.inside.rig) (g.R.Disk.seen c.self.inside.opened.value) c.if-self.false (c.self.invariant.3 here)
+      (g.R.Disk.may_leave c.self.inside.rig) ((c.self.invariant.0 c.if-self.false).areas here).rests in
       fell_alone l.rules l.history e c.self.inside.beside (g.R.Disk.may_leave c.settle_areas.new.disk) c.len-len.ensures.legal (c.self.invariant.1 c.if-self.false)
-      (c.settle_areas.ensures.crash here l.rules l.history e kept.rests).now,
+      (c.settle_areas.ensures.crash here l.rules l.history e rests).now,
+  λ plain.
+      let l = c.self.inside.ledger in
+      keeps_fallen l.rules l.history (payloads_in (after l.rules l.history) (g.R.Disk.seen c.self.inside.rested.value)) c.self.inside.down (g.R.Disk.seen c.self.inside.rig)
+      (g.R.Disk.seen c.settle_areas.new.disk) (g.R.Disk.seen c.self.inside.opened.value) (c.self.invariant.3 (was_plain c.settle_areas.ensures.kind plain)),
+  opening_fell c.self.invariant.4 c.settle_areas.ensures.kind c.in-Err.ensures.cause.later c.in-Err.ensures.cause.failed,
 )

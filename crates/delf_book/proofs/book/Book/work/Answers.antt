@@ -1,28 +1,34 @@
-use Rattle.std.proofs.Common.{◌≡◌, ℕ, [], max, min, sym, ap, ◌∙◌, subst}
+use Rattle.std.proofs.Common.{◌≡◌, ℕ, true, List, [], ◌∷◌, ◌++◌, max, min, Some, sym, ap, ◌∙◌, subst}
+use Rattle.std.specs.Prelude.{Err}
+use Rattle.delf_model.specs.declared.entry.Entry.{Entry}
+use Rattle.delf_model.specs.RuleSet.{RuleSet}
+use Rattle.delf_book.specs.declared.stepping.Halt.{Halt}
+use Rattle.delf_book.proofs.Payloads.{rests_with, keeps_still, grew_by, keeps_longer, keeps_fallen, opening_still, opening_fell}
+use Rattle.delf_book.proofs.Plainly.{at_ledger}
 use Rattle.delf_book.proofs.Fallen.{fell_beside}
-use Rattle.delf_book.specs.Keeping.{payloads_in}
-use Rattle.delf_disk.proofs.Flags.{was_plain}
+use Rattle.delf_book.specs.Keeping.{KeepsDown, KeepsPayloads, payloads_in}
+use Rattle.delf_disk.proofs.Flags.{was_plain, stays_plain}
 use Rattle.delf_disk.specs.Moments.{Leaves}
 use Rattle.delf_disk.specs.Plain.{Plain}
 use Rattle.delf_model.specs.declared.entry.What.{What}
 use Rattle.delf_model.specs.Room.{greatest_moment, moment_of}
 use Rattle.delf_model.specs.Step.{after}
-use Rattle.delf_model.specs.Payloads.{Payloads}
+use Rattle.delf_model.specs.Payloads.{Payloads, payloads_after}
 use Rattle.store_laws.specs.Moves.{RestIn}
 use Rattle.delf_book.specs.Books.{Booked, state_in, IsCrashSafe, IsDurable}
 use Rattle.delf_book.specs.Steps.{PutsSealed, TellsDamage, step_entry}
 use Rattle.delf_book.specs.Writing.{Rests}
-use Rattle.delf_book.proofs.Halts.{at_hurt}
+use Rattle.delf_book.proofs.Halts.{at_hurt, starved_is, waits_starved, waits_hurt}
 use Rattle.delf_book.proofs.Whole.{seals_stay, whole_undamaged}
 use Rattle.delf_book.proofs.Workings.{of_first, first_line}
 use Rattle.delf_book.specs.Seals.{SealsStay}
-use Rattle.delf_book.specs.Stepping.{PutsBackItem}
-use Rattle.store_laws.specs.Stores.{AreSealed}
+use Rattle.delf_book.specs.Stepping.{PutsBackItem, CountsHalt}
+use Rattle.store_laws.specs.Stores.{digest, AreSealed}
 use Rattle.delf_book.proofs.book.Book.work.Goals as goal
 
 pub returns-in-Ok-clause-crash : goal.returns-in-Ok-clause-crash
 returns-in-Ok-clause-crash g c = λ plain.
-    let view : Booked g.row.G.Denot g.row.R.Denot = (record { rules = c.self.inside.ledger.rules; history = c.self.inside.ledger.history; store = c.self.inside.ledger.store; spare = c.self.inside.spare; down = c.self.inside.down; beside = c.self.inside.beside; rig = c.self.inside.rig }) in
+    let view : Booked g.row.G.Denot g.row.R.Denot = (record { rules = c.self.inside.ledger.rules; history = c.self.inside.ledger.history; payloads = payloads_in (after c.self.inside.ledger.rules c.self.inside.ledger.history) (g.R.Disk.seen c.self.inside.rested.value); store = c.self.inside.ledger.store; spare = c.self.inside.spare; down = c.self.inside.down; beside = c.self.inside.beside; rig = c.self.inside.rig; opened = c.self.inside.opened.value }) in
     let m_is : c.moment_at-moment.result ≡ moment_of (state_in view) c.args.now =
     c.moment_at-moment.ensures ∙ ap (λ (k : ℕ). max k (min c.args.now greatest_moment)) c.moment.ensures.value in
     let here : Plain (g.R.Disk.told c.self.inside.rig) (g.R.Disk.honest c.self.inside.rig) =
@@ -53,7 +59,7 @@ returns-in-Err-Damaged-clause-crash g c = λ plain.
 
 pub returns-in-Err-Failed-clause-crash : goal.returns-in-Err-Failed-clause-crash
 returns-in-Err-Failed-clause-crash g c = λ plain.
-    let view : Booked g.row.G.Denot g.row.R.Denot = (record { rules = c.self.inside.ledger.rules; history = c.self.inside.ledger.history; store = c.self.inside.ledger.store; spare = c.self.inside.spare; down = c.self.inside.down; beside = c.self.inside.beside; rig = c.self.inside.rig }) in
+    let view : Booked g.row.G.Denot g.row.R.Denot = (record { rules = c.self.inside.ledger.rules; history = c.self.inside.ledger.history; payloads = payloads_in (after c.self.inside.ledger.rules c.self.inside.ledger.history) (g.R.Disk.seen c.self.inside.rested.value); store = c.self.inside.ledger.store; spare = c.self.inside.spare; down = c.self.inside.down; beside = c.self.inside.beside; rig = c.self.inside.rig; opened = c.self.inside.opened.value }) in
     let m_is : c.moment_at-moment.result ≡ moment_of (state_in view) c.args.now =
     c.moment_at-moment.ensures ∙ ap (λ (k : ℕ). max k (min c.args.now greatest_moment)) c.moment.ensures.value in
     let here : Plain (g.R.Disk.told c.self.inside.rig) (g.R.Disk.honest c.self.inside.rig) =
@@ -65,7 +71,7 @@ returns-in-Err-Failed-clause-crash g c = λ plain.
 
 pub returns-in-Ok-clause-seals : goal.returns-in-Ok-clause-seals
 returns-in-Ok-clause-seals g c = λ plain.
-    let view : Booked g.row.G.Denot g.row.R.Denot = (record { rules = c.self.inside.ledger.rules; history = c.self.inside.ledger.history; store = c.self.inside.ledger.store; spare = c.self.inside.spare; down = c.self.inside.down; beside = c.self.inside.beside; rig = c.self.inside.rig }) in
+    let view : Booked g.row.G.Denot g.row.R.Denot = (record { rules = c.self.inside.ledger.rules; history = c.self.inside.ledger.history; payloads = payloads_in (after c.self.inside.ledger.rules c.self.inside.ledger.history) (g.R.Disk.seen c.self.inside.rested.value); store = c.self.inside.ledger.store; spare = c.self.inside.spare; down = c.self.inside.down; beside = c.self.inside.beside; rig = c.self.inside.rig; opened = c.self.inside.opened.value }) in
     let m_is : c.moment_at-moment.result ≡ moment_of (state_in view) c.args.now =
     c.moment_at-moment.ensures ∙ ap (λ (k : ℕ). max k (min c.args.now greatest_moment)) c.moment.ensures.value in
     let here : Plain (g.R.Disk.told c.self.inside.rig) (g.R.Disk.honest c.self.inside.rig) =
@@ -78,7 +84,7 @@ returns-in-Ok-clause-seals g c = λ plain.
 
 pub returns-in-Err-Failed-clause-seals : goal.returns-in-Err-Failed-clause-seals
 returns-in-Err-Failed-clause-seals g c = λ plain.
-    let view : Booked g.row.G.Denot g.row.R.Denot = (record { rules = c.self.inside.ledger.rules; history = c.self.inside.ledger.history; store = c.self.inside.ledger.store; spare = c.self.inside.spare; down = c.self.inside.down; beside = c.self.inside.beside; rig = c.self.inside.rig }) in
+    let view : Booked g.row.G.Denot g.row.R.Denot = (record { rules = c.self.inside.ledger.rules; history = c.self.inside.ledger.history; payloads = payloads_in (after c.self.inside.ledger.rules c.self.inside.ledger.history) (g.R.Disk.seen c.self.inside.rested.value); store = c.self.inside.ledger.store; spare = c.self.inside.spare; down = c.self.inside.down; beside = c.self.inside.beside; rig = c.self.inside.rig; opened = c.self.inside.opened.value }) in
     let m_is : c.moment_at-moment.result ≡ moment_of (state_in view) c.args.now =
     c.moment_at-moment.ensures ∙ ap (λ (k : ℕ). max k (min c.args.now greatest_moment)) c.moment.ensures.value in
     let here : Plain (g.R.Disk.told c.self.inside.rig) (g.R.Disk.honest c.self.inside.rig) =
@@ -105,16 +111,116 @@ returns-in-Err-Damaged-clause-seals g c = λ plain.
     (first_line (after l.rules l.history) c.moment_at-moment.result c.in-Some.what c.in-Some.ensures.legal c.in-Some.ensures.step)
     puts.0 puts.1 (tells e rests) whole)
 
-pub invariant_of-self-in-Err-Failed : goal.invariant_of-self-in-Err-Failed
-invariant_of-self-in-Err-Failed g c = (
-  λ up. absurd (cc up),
-  λ up. absurd (cc up),
-  λ down plain.
+pub returns-in-Ok-clause-payloads : goal.returns-in-Ok-clause-payloads
+returns-in-Ok-clause-payloads g c = λ plain.
+    let view : Booked g.row.G.Denot g.row.R.Denot = (record { rules = c.self.inside.ledger.rules; history = c.self.inside.ledger.history; payloads = payloads_in (after c.self.inside.ledger.rules c.self.inside.ledger.history) (g.R.Disk.seen c.self.inside.rested.value); store = c.self.inside.ledger.store; spare = c.self.inside.spare; down = c.self.inside.down; beside = c.self.inside.beside; rig = c.self.inside.rig; opened = c.self.inside.opened.value }) in
+    let m_is : c.moment_at-moment.result ≡ moment_of (state_in view) c.args.now =
+    c.moment_at-moment.ensures ∙ ap (λ (k : ℕ). max k (min c.args.now greatest_moment)) c.moment.ensures.value in
+    let here : Plain (g.R.Disk.told c.self.inside.rig) (g.R.Disk.honest c.self.inside.rig) =
+    subst (λ (b : Booked g.row.G.Denot g.row.R.Denot). Plain (g.R.Disk.told b.rig) (g.R.Disk.honest b.rig)) (sym c.self.view_is) plain in
+    let next = stays_plain c.step.ensures.kind here in
+    let l = c.self.inside.ledger in
+    let now = c.step.new.ledger in
+    let areas = (c.self.invariant.0 c.if-self.false).areas here in
+    let durable = c.in-Ok.ensures.durable here in
+    let e = payloads_in (after l.rules l.history) (g.R.Disk.seen c.self.inside.rested.value) in
+    let entry : Entry = step_entry c.moment_at-moment.result c.in-Some.what in
+    let longer : List Entry = l.history ++ entry ∷ [] in
+    let line = first_line (after l.rules l.history) c.moment_at-moment.result c.in-Some.what c.in-Some.ensures.legal c.in-Some.ensures.step in
+    of_first view c.args.self.now c.self.view_is c.args.now c.moment_at-moment.result m_is c.in-Some.what c.in-Some.ensures.step
+    (λ (b : Booked g.row.G.Denot g.row.R.Denot) (k : ℕ) (w : What).
+    payloads_in (after now.rules now.history) (g.R.Disk.seen c.of-rested.result.value) ≡ payloads_after digest (state_in b) (step_entry k w) [] b.payloads)
+    (at_ledger (λ (r : RuleSet) (h : List Entry). payloads_in (after r h) (g.R.Disk.seen c.of-rested.result.value) ≡ payloads_after digest (after l.rules l.history) entry [] e)
+    l.rules now.rules longer now.history c.in-Ok.ensures.ok.rules c.in-Ok.ensures.ok.history
+    (subst (λ (x : g.row.R.Denot). payloads_in (after l.rules longer) (g.R.Disk.seen x) ≡ payloads_after digest (after l.rules l.history) entry [] e) (sym c.of-rested.ensures)
+    (grew_by l.rules l.history e c.self.inside.down (g.R.Disk.seen c.self.inside.rig) (g.R.Disk.seen c.self.inside.opened.value) c.if-self.false (c.self.invariant.3 here) entry []
+    (g.R.Disk.seen c.step.new.disk) (g.R.Disk.may_leave c.self.inside.rig) (g.R.Disk.may_leave c.step.new.disk) c.len-len.ensures.legal line
+    (g.met.R.Disk.reads_as_image c.self.inside.rig here) (g.met.R.Disk.reads_as_image c.step.new.disk next) areas.rests
+    (durable (payloads_in (after l.rules l.history) (g.R.Disk.seen c.self.inside.rig)) areas.rests))))
+
+pub invariant_of-self : goal.invariant_of-self
+invariant_of-self g c = (
+  λ up. c.in-Ok.ensures.up,
+  λ up. c.self.invariant.1 c.if-self.false,
+  λ down plain. absurd (cc (down, c.if-self.false)),
+  λ next.
+      let here = was_plain c.step.ensures.kind next in
       let l = c.self.inside.ledger in
       let now = c.step.new.ledger in
-      let here = was_plain c.step.ensures.kind plain in
-      let kept = (c.self.invariant.0 c.if-self.false).areas here in
-      let e = payloads_in (after l.rules l.history) (g.R.Disk.seen c.self.inside.rig) in
-      fell_beside l.rules now.rules l.history now.history e (step_entry c.moment_at-moment.result c.in-Some.what) [] c.of.result
-      (g.R.Disk.may_leave c.step.new.disk) c.step.ensures.rules c.in-Err-Failed.ensures.err c.of.ensures.entry c.of.ensures.payload (c.step.ensures.crash here e kept.rests).now,
+      let areas = (c.self.invariant.0 c.if-self.false).areas here in
+      let durable = c.in-Ok.ensures.durable here in
+      let e = payloads_in (after l.rules l.history) (g.R.Disk.seen c.self.inside.rested.value) in
+      let entry : Entry = step_entry c.moment_at-moment.result c.in-Some.what in
+      let longer : List Entry = l.history ++ entry ∷ [] in
+      let line = first_line (after l.rules l.history) c.moment_at-moment.result c.in-Some.what c.in-Some.ensures.legal c.in-Some.ensures.step in
+      at_ledger (λ (r : RuleSet) (h : List Entry). KeepsPayloads r h (payloads_in (after r h) (g.R.Disk.seen c.of-rested.result.value)) c.self.inside.down (g.R.Disk.seen c.step.new.disk) (g.R.Disk.seen c.self.inside.opened.value))
+      l.rules now.rules longer now.history c.in-Ok.ensures.ok.rules c.in-Ok.ensures.ok.history
+      (subst (λ (x : g.row.R.Denot). KeepsPayloads l.rules longer (payloads_in (after l.rules longer) (g.R.Disk.seen x)) c.self.inside.down (g.R.Disk.seen c.step.new.disk) (g.R.Disk.seen c.self.inside.opened.value)) (sym c.of-rested.ensures)
+      (keeps_longer l.rules l.history e c.self.inside.down (g.R.Disk.seen c.self.inside.rig) (g.R.Disk.seen c.self.inside.opened.value) c.if-self.false (c.self.invariant.3 here) entry []
+      (g.R.Disk.seen c.step.new.disk) (g.R.Disk.may_leave c.self.inside.rig) (g.R.Disk.may_leave c.step.new.disk) c.len-len.ensures.legal line
+      (g.met.R.Disk.reads_as_image c.self.inside.rig here) (g.met.R.Disk.reads_as_image c.step.new.disk next) areas.rests
+      (durable (payloads_in (after l.rules l.history) (g.R.Disk.seen c.self.inside.rig)) areas.rests))),
+  opening_still c.self.invariant.4 c.step.ensures.kind c.in-Ok.ensures.cause,
 )
+
+pub invariant_of-self-in-Err-OutOfMemory : goal.invariant_of-self-in-Err-OutOfMemory
+invariant_of-self-in-Err-OutOfMemory g c =
+    let l = c.self.inside.ledger in
+    let now = c.step.new.ledger in
+    let disk : c.step.new.disk ≡ c.self.inside.rig = starved_is _ c.in-Err-OutOfMemory.field-0 c.in-Err-OutOfMemory.field-0-is c.in-Err-OutOfMemory.ensures.unread in (
+      λ up. waits_starved _ c.in-Err-OutOfMemory.field-0 c.in-Err-OutOfMemory.field-0-is c.in-Err-OutOfMemory.ensures.stays,
+      λ up. c.self.invariant.1 c.if-self.false,
+      λ down plain. absurd (cc (down, c.if-self.false)),
+      λ plain.
+          at_ledger (λ (r : RuleSet) (h : List Entry). KeepsPayloads r h (payloads_in (after r h) (g.R.Disk.seen c.self.inside.rested.value)) c.self.inside.down (g.R.Disk.seen c.step.new.disk) (g.R.Disk.seen c.self.inside.opened.value))
+          l.rules now.rules l.history now.history c.step.ensures.rules c.in-Err-OutOfMemory.ensures.err
+          (subst (λ (x : g.row.R.Denot). KeepsPayloads l.rules l.history (payloads_in (after l.rules l.history) (g.R.Disk.seen c.self.inside.rested.value)) c.self.inside.down (g.R.Disk.seen x) (g.R.Disk.seen c.self.inside.opened.value)) (sym disk)
+          (c.self.invariant.3 (was_plain c.step.ensures.kind plain))),
+      opening_still c.self.invariant.4 c.step.ensures.kind (ap g.R.Disk.faults disk),
+    )
+
+pub invariant_of-self-in-Err-Damaged : goal.invariant_of-self-in-Err-Damaged
+invariant_of-self-in-Err-Damaged g c =
+    let l = c.self.inside.ledger in
+    let now = c.step.new.ledger in
+    let cause = subst (λ (f : Halt). CountsHalt {T = ℕ} (g.R.Disk.faults c.self.inside.rig) (g.R.Disk.faults c.step.new.disk) (Err f)) c.in-Err-Damaged.field-0-is c.in-Err-Damaged.ensures.cause in (
+      λ up. waits_hurt _ c.in-Err-Damaged.field-0 c.in-Err-Damaged.item c.in-Err-Damaged.stored c.in-Err-Damaged.found c.in-Err-Damaged.field-0-is c.in-Err-Damaged.ensures.stays,
+      λ up. c.self.invariant.1 c.if-self.false,
+      λ down plain. absurd (cc (down, c.if-self.false)),
+      λ plain.
+          let here = was_plain c.step.ensures.kind plain in
+          let rests = ((c.self.invariant.0 c.if-self.false).areas here).rests in
+          let read = at_hurt (λ item stored found. Plain (g.R.Disk.told c.self.inside.rig) (g.R.Disk.honest c.self.inside.rig) → (o : Payloads) → RestIn l.rules l.history o (g.R.Disk.may_leave c.self.inside.rig) →
+          Leaves g.R.Disk.moment g.R.Disk.may_leave g.R.Disk.left_since (Rests l.rules l.history o) c.self.inside.rig c.step.new.disk) c.step.result c.in-Err-Damaged.field-0
+          c.in-Err-Damaged.item c.in-Err-Damaged.stored c.in-Err-Damaged.found c.in-Err-Damaged.is c.in-Err-Damaged.field-0-is c.step.ensures.only_read here
+          (payloads_in (after l.rules l.history) (g.R.Disk.seen c.self.inside.rig)) rests in
+          at_ledger (λ (r : RuleSet) (h : List Entry). KeepsPayloads r h (payloads_in (after r h) (g.R.Disk.seen c.self.inside.rested.value)) c.self.inside.down (g.R.Disk.seen c.step.new.disk) (g.R.Disk.seen c.self.inside.opened.value))
+          l.rules now.rules l.history now.history c.step.ensures.rules c.in-Err-Damaged.ensures.err
+          (keeps_still l.rules l.history (payloads_in (after l.rules l.history) (g.R.Disk.seen c.self.inside.rested.value)) c.self.inside.down (g.R.Disk.seen c.self.inside.rig) (g.R.Disk.seen c.self.inside.opened.value)
+          c.if-self.false (c.self.invariant.3 here) (g.R.Disk.seen c.step.new.disk) (read.now (g.R.Disk.seen c.step.new.disk) (g.met.R.Disk.reads_as_image c.step.new.disk plain)).1),
+      opening_still c.self.invariant.4 c.step.ensures.kind cause,
+    )
+
+pub invariant_of-self-in-Err-Failed : goal.invariant_of-self-in-Err-Failed
+invariant_of-self-in-Err-Failed g c =
+    let l = c.self.inside.ledger in
+    let now = c.step.new.ledger in
+    let cause = subst (λ (f : Halt). CountsHalt {T = ℕ} (g.R.Disk.faults c.self.inside.rig) (g.R.Disk.faults c.step.new.disk) (Err f)) c.in-Err-Failed.field-0-is c.in-Err-Failed.ensures.cause in
+    let e = payloads_in (after l.rules l.history) (g.R.Disk.seen c.self.inside.rested.value) in (
+      λ up. absurd (cc up),
+      λ up. absurd (cc up),
+      λ down plain.
+          let here = was_plain c.step.ensures.kind plain in
+          let rests = rests_with l.rules l.history e c.self.inside.down (g.R.Disk.seen c.self.inside.rig) (g.R.Disk.seen c.self.inside.opened.value) c.if-self.false (c.self.invariant.3 here)
+          (g.R.Disk.may_leave c.self.inside.rig) ((c.self.invariant.0 c.if-self.false).areas here).rests in
+          at_ledger (λ (r : RuleSet) (h : List Entry). KeepsDown r h (payloads_in (after r h) (g.R.Disk.seen c.self.inside.rested.value)) (Some c.of.result) (g.R.Disk.may_leave c.step.new.disk))
+          l.rules now.rules l.history now.history c.step.ensures.rules c.in-Err-Failed.ensures.err
+          (fell_beside l.rules l.history e (step_entry c.moment_at-moment.result c.in-Some.what) [] c.of.result
+          (g.R.Disk.may_leave c.step.new.disk) c.of.ensures.entry c.of.ensures.payload (c.step.ensures.crash here e rests).now),
+      λ plain.
+          at_ledger (λ (r : RuleSet) (h : List Entry). KeepsPayloads r h (payloads_in (after r h) (g.R.Disk.seen c.self.inside.rested.value)) true (g.R.Disk.seen c.step.new.disk) (g.R.Disk.seen c.self.inside.opened.value))
+          l.rules now.rules l.history now.history c.step.ensures.rules c.in-Err-Failed.ensures.err
+          (keeps_fallen l.rules l.history e c.self.inside.down (g.R.Disk.seen c.self.inside.rig) (g.R.Disk.seen c.step.new.disk) (g.R.Disk.seen c.self.inside.opened.value)
+          (c.self.invariant.3 (was_plain c.step.ensures.kind plain))),
+      opening_fell c.self.invariant.4 c.step.ensures.kind cause.0 cause.1,
+    )
