@@ -37,7 +37,7 @@ pub struct Book<G: GraphStore, R: Rig> {
 }
 
 impl<G: GraphStore, R: Rig> Model for Book<G, R> {
-    ghost use Rattle.std.specs.Prelude.{◌≡◌, true, false, None, vec_capacity};
+    ghost use Rattle.std.specs.Prelude.{◌≡◌, true, false, [], None, vec_capacity};
     ghost use Rattle.delf_disk.specs.Plain.{Plain};
     ghost use Rattle.delf_book.specs.Books.{Booked};
     ghost use Rattle.delf_book.specs.Keeping.{KeepsUp, KeepsDown};
@@ -48,7 +48,8 @@ impl<G: GraphStore, R: Rig> Model for Book<G, R> {
 
     ghost invariant = { λ b. (b.down ≡ false → KeepsUp b.ledger.rules b.ledger.history b.spare b.ledger.spare b.logs.journal b.logs.vault b.logs.carriers.items (vec_capacity b.logs.carriers) (R.Disk.told b.rig) (R.Disk.honest b.rig) (R.Disk.seen b.rig) (R.Disk.may_leave b.rig))
         × (b.down ≡ false → b.beside ≡ None)
-        × (b.down ≡ true → Plain (R.Disk.told b.rig) (R.Disk.honest b.rig) → KeepsDown b.ledger.rules b.ledger.history b.beside (R.Disk.may_leave b.rig)) };
+        × (b.down ≡ true → Plain (R.Disk.told b.rig) (R.Disk.honest b.rig) → KeepsDown b.ledger.rules b.ledger.history b.beside (R.Disk.may_leave b.rig))
+        × (b.ledger.held ≡ []) };
 }
 
 impl<G: GraphStore, R: Rig> Book<G, R> {

@@ -56,6 +56,15 @@ enter-requires-clause-rows g c =
     let entry = entry_here view c.args.self.now c.self.view_is c.args.now c.args.seat c.args.call.now c.moment_at-moment.result m_is c.in_ok-what.what c.in_ok-what.ensures.reply objects c.requires.numbers in
     entry.rows
 
+pub enter-requires-clause-free : goal.enter-requires-clause-free
+enter-requires-clause-free g c =
+    let view : Booked g.row.G.Denot g.row.R.Denot = (record { rules = c.self.inside.ledger.rules; history = c.self.inside.ledger.history; store = c.self.inside.ledger.store; spare = c.self.inside.spare; down = c.self.inside.down; beside = c.self.inside.beside; rig = c.self.inside.rig }) in
+    let m_is : c.moment_at-moment.result ≡ moment_of (state_in view) c.args.now =
+    c.moment_at-moment.ensures ∙ ap (λ (k : ℕ). max k (min c.args.now greatest_moment)) c.moment.ensures.value in
+    let objects : length c.self.inside.ledger.rules.objects ≤ 64 = subst (λ (r : RuleSet). length r.objects ≤ 64) c.rules.ensures (omega (arith, c.objects_len-kinds.ensures.value, c.objects_len-kinds.ensures.below)) in
+    let entry = entry_here view c.args.self.now c.self.view_is c.args.now c.args.seat c.args.call.now c.moment_at-moment.result m_is c.in_ok-what.what c.in_ok-what.ensures.reply objects c.requires.numbers in
+    entry.unheld c.self.inside.ledger.held
+
 pub returns-in-Ok-clause-crash : goal.returns-in-Ok-clause-crash
 returns-in-Ok-clause-crash g c = λ plain what is.
     let view : Booked g.row.G.Denot g.row.R.Denot = (record { rules = c.self.inside.ledger.rules; history = c.self.inside.ledger.history; store = c.self.inside.ledger.store; spare = c.self.inside.spare; down = c.self.inside.down; beside = c.self.inside.beside; rig = c.self.inside.rig }) in
@@ -110,4 +119,5 @@ invariant_of-self-in-Err-Failed g c = (
       let e = payloads_in (after l.rules l.history) (g.R.Disk.seen c.self.inside.rig) in
       fell_beside l.rules now.rules l.history now.history e (record { moment = c.moment_at-moment.result; what = c.in_ok-what.what }) c.payload_of-payload.result.now c.of.result
       (g.R.Disk.may_leave c.enter.new.disk) c.enter.ensures.rules c.in-Err-Failed.ensures.err c.of.ensures.entry c.of.ensures.payload (c.enter.ensures.crash here e kept.rests).now,
+  c.enter.ensures.held ∙ c.self.invariant.3,
 )

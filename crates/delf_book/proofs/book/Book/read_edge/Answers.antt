@@ -40,6 +40,7 @@ invariant_of-self g c = (
       },
   c.self.invariant.1,
   λ down plain. absurd (cc (down, c.if-self.false)),
+  c.self.invariant.3,
 )
 
 pub returns-in-Ok-clause-crash : goal.returns-in-Ok-clause-crash
@@ -69,4 +70,5 @@ invariant_of-self-in-Err g c = (
       let e = payloads_in (after l.rules l.history) (g.R.Disk.seen c.self.inside.rig) in
       fell_alone l.rules l.history e c.self.inside.beside (g.R.Disk.may_leave c.read_edge_at.new.disk) c.len-len.ensures.legal (c.self.invariant.1 c.if-self.false)
       (c.read_edge_at.ensures.crash here l.rules l.history e kept.rests).now,
+  c.self.invariant.3,
 )

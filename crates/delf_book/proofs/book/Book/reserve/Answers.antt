@@ -1,4 +1,4 @@
-use Rattle.std.proofs.Common.{vec_capacity}
+use Rattle.std.proofs.Common.{vec_capacity, ◌∙◌}
 use Rattle.delf_book.proofs.Fallen.{down_among}
 use Rattle.delf_book.proofs.Plainly.{keeps_same}
 use Rattle.delf_book.proofs.book.Book.reserve.Goals as goal
@@ -15,6 +15,7 @@ invariant_of-self-else-n-self g c =
           r.journal_area r.journal_sizes r.vault_area r.vault_sizes r.carriers (r.kept c.self.inside.spare) (c.self.invariant.0 up),
       c.self.invariant.1,
       λ down plain. down_among l.rules m.rules l.history m.history c.self.inside.beside _ _ r.ledger.rules r.ledger.history (λ x image. image) (c.self.invariant.2 down plain),
+      r.ledger.held ∙ c.self.invariant.3,
     )
 
 pub invariant_of-self-in-Err : goal.invariant_of-self-in-Err
@@ -29,4 +30,5 @@ invariant_of-self-in-Err g c =
           r.journal_area r.journal_sizes r.vault_area r.vault_sizes r.carriers (r.kept c.self.inside.spare) (c.self.invariant.0 up),
       c.self.invariant.1,
       λ down plain. down_among l.rules m.rules l.history m.history c.self.inside.beside _ _ r.ledger.rules r.ledger.history (λ x image. image) (c.self.invariant.2 down plain),
+      r.ledger.held ∙ c.self.invariant.3,
     )

@@ -1,10 +1,11 @@
-use Rattle.std.proofs.Common.{◌≡◌, ℕ, [], max, min, sym, ap, ◌∙◌, subst}
+use Rattle.std.proofs.Common.{◌≡◌, ℕ, List, [], max, min, sym, ap, ◌∙◌, subst}
 use Rattle.delf_book.proofs.Fallen.{fell_beside}
 use Rattle.delf_book.specs.Keeping.{payloads_in}
 use Rattle.delf_disk.proofs.Flags.{was_plain}
 use Rattle.delf_disk.specs.Moments.{Leaves}
 use Rattle.delf_disk.specs.Plain.{Plain}
 use Rattle.delf_model.specs.declared.entry.What.{What}
+use Rattle.delf_model.specs.Order.{is_held}
 use Rattle.delf_model.specs.Room.{greatest_moment, moment_of}
 use Rattle.delf_model.specs.Step.{after}
 use Rattle.delf_model.specs.Payloads.{Payloads}
@@ -117,4 +118,8 @@ invariant_of-self-in-Err-Failed g c = (
       let e = payloads_in (after l.rules l.history) (g.R.Disk.seen c.self.inside.rig) in
       fell_beside l.rules now.rules l.history now.history e (step_entry c.moment_at-moment.result c.in-Some.what) [] c.of.result
       (g.R.Disk.may_leave c.step.new.disk) c.step.ensures.rules c.in-Err-Failed.ensures.err c.of.ensures.entry c.of.ensures.payload (c.step.ensures.crash here e kept.rests).now,
+  c.step.ensures.held ∙ c.self.invariant.3,
 )
+
+pub step-requires-clause-free : goal.step-requires-clause-free
+step-requires-clause-free g c = ap (λ (held : List What). is_held held c.in-Some.what) c.self.invariant.3
