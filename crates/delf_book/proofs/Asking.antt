@@ -1,5 +1,6 @@
 -- The entry that an accepted call asks for.
 use Rattle.std.proofs.Common.{◌≡◌, ℕ, ◌≤◌, Bool, true, false, cond, ltb, List, [], ◌∷◌, length, Option, Some, None, refl, subst, arith}
+use Rattle.std.proofs.lemmas.Bool.{or_from}
 use Rattle.std.proofs.lemmas.Bool.Decides.{nat_tests}
 use Rattle.std.specs.Prelude.{Ok, is_some}
 use Rattle.delf_model.specs.declared.call.Call.{Call}
@@ -13,6 +14,7 @@ use Rattle.delf_model.specs.declared.rows.EdgeKey.{EdgeKey}
 use Rattle.delf_model.specs.Graph.{edge_stands}
 use Rattle.delf_model.specs.RuleSet.{RuleSet}
 use Rattle.delf_model.specs.State.{State, find_job}
+use Rattle.delf_model.specs.Order.{erases_same, is_held}
 use Rattle.delf_model.specs.Owners.{unlink_start, key_of}
 use Rattle.std.specs.Option.{option_or}
 use Rattle.delf_model.specs.Reply.{job_taken_if, absent, condemned, no_edge, refused, first_refusal, too_long, answered, answered_by, asked, restore_of, reply, next_tag}
@@ -31,6 +33,12 @@ pub record IsCallEntry (s : State) (given : List ℕ) (what : What) : Type 0 whe
   pub rows : scrubs_rows what ≡ true
   pub bounded : IsBounded what
   pub stands : EdgeStands s what
+  pub unheld : (held : List What) → is_held held what ≡ false
+
+-- an entry that erases no row takes that of no held step
+none_held : (what : What) → ((other : What) → erases_same what other ≡ false) → (held : List What) → is_held held what ≡ false
+none_held what apart [] = refl
+none_held what apart (x ∷ xs) = or_from (erases_same what x) (is_held xs what) (apart x) (none_held what apart xs)
 
 made : (w what : What) (o : Option Refusal) → answered_by w o ≡ Ok what → (o ≡ None) × (w ≡ what)
 made w what None is = (refl, cc)
@@ -81,11 +89,12 @@ module _ (rules : RuleSet) (s : State) (objects : length rules.objects ≤ 64) w
         rows = refl;
         bounded = (omega (arith, within, objects), small);
         stands = tt;
+        unheld = none_held (Create tag kind id (length payload)) (λ other. refl);
       }) w.1
   by_call moment tag (call.Update id payload) what within is =
       let w = made (Update tag id (length payload)) what (refused s moment (Update tag id (length payload))) is in
       let small = short_enough (length payload) (none_first (too_long (length payload)) _ w.0) in
-      at_what payload _ what (record { size = refl; small = small; no_item = refl; no_put = λ puts. cc (puts.2.1.0); rows = refl; bounded = small; stands = tt }) w.1
+      at_what payload _ what (record { size = refl; small = small; no_item = refl; no_put = λ puts. cc (puts.2.1.0); rows = refl; bounded = small; stands = tt; unheld = none_held (Update tag id (length payload)) (λ other. refl) }) w.1
   by_call moment tag (call.Link edge from to payload) what within is =
       let w = made (Link tag edge from to (length payload)) what (refused s moment (Link tag edge from to (length payload))) is in
       let small = short_enough (length payload) (none_first (too_long (length payload)) _ w.0) in
@@ -97,13 +106,14 @@ module _ (rules : RuleSet) (s : State) (objects : length rules.objects ≤ 64) w
         rows = refl;
         bounded = small;
         stands = tt;
+        unheld = none_held (Link tag edge from to (length payload)) (λ other. refl);
       }) w.1
   by_call moment tag (call.Unlink edge from to name) what within is =
       let w = made (Unlink tag edge from to name) what (refused s moment (Unlink tag edge from to name)) is in
-      at_what [] _ what (record { size = refl; small = omega arith; no_item = refl; no_put = λ puts. cc (puts.2.1.0); rows = refl; bounded = tt; stands = edge_there s from to (key_of edge from to) (job_taken_if (is_some (unlink_start s edge from to name)) s name ∷ []) w.0 }) w.1
+      at_what [] _ what (record { size = refl; small = omega arith; no_item = refl; no_put = λ puts. cc (puts.2.1.0); rows = refl; bounded = tt; stands = edge_there s from to (key_of edge from to) (job_taken_if (is_some (unlink_start s edge from to name)) s name ∷ []) w.0; unheld = none_held (Unlink tag edge from to name) (λ other. refl) }) w.1
   by_call moment tag (call.Delete id name) what within is =
       let w = made (Delete tag id name) what (refused s moment (Delete tag id name)) is in
-      at_what [] _ what (record { size = refl; small = omega arith; no_item = refl; no_put = λ puts. cc (puts.2.1.0); rows = refl; bounded = tt; stands = tt }) w.1
+      at_what [] _ what (record { size = refl; small = omega arith; no_item = refl; no_put = λ puts. cc (puts.2.1.0); rows = refl; bounded = tt; stands = tt; unheld = none_held (Delete tag id name) (λ other. refl) }) w.1
   by_call moment tag (call.Restore name) what within is = by_job (find_job s.jobs name) is
     where
       by_job : (o : Option ℕ) → answered s moment (restore_of tag o) ≡ Ok what → IsCallEntry s [] what
@@ -111,7 +121,7 @@ module _ (rules : RuleSet) (s : State) (objects : length rules.objects ≤ 64) w
       by_job (Some job) is =
           let w = made (Restore tag job) what (refused s moment (Restore tag job)) is in
           subst (λ (x : What). IsCallEntry s [] x) w.1
-          (record { size = refl; small = omega arith; no_item = refl; no_put = λ puts. cc (puts.2.1.0); rows = refl; bounded = tt; stands = tt })
+          (record { size = refl; small = omega arith; no_item = refl; no_put = λ puts. cc (puts.2.1.0); rows = refl; bounded = tt; stands = tt; unheld = none_held (Restore tag job) (λ other. refl) })
 
   pub call_entry : (moment seat : ℕ) (c : Call) (what : What) → HasNumbers rules c → reply s moment seat c ≡ Ok what → IsCallEntry s (given_by c) what
   call_entry moment seat c what within is = by_call moment (next_tag s seat) c what within is

@@ -1,9 +1,10 @@
 //! One entry more, in the ledger and on the disk.
-ghost use Rattle.std.specs.Prelude.{◌≡◌, ◌+◌, ◌≤◌, ◌<◌, ℕ, true, None, length, vec_capacity, IfSome, IsTrue, OnOk, OnErr};
+ghost use Rattle.std.specs.Prelude.{◌≡◌, ◌+◌, ◌≤◌, ◌<◌, ℕ, true, None, length, vec_capacity, IfSome, IsTrue, OnOk, OnErr, false};
 ghost use Rattle.delf_disk.specs.Causes.{HasCause};
 ghost use Rattle.delf_disk.specs.Plain.{Plain, SameKind};
 ghost use Rattle.entry_codec.specs.EntryHead.{IsBounded};
 ghost use Rattle.delf_model.specs.Legal.{is_legal};
+ghost use Rattle.delf_model.specs.Order.{is_held};
 ghost use Rattle.delf_model.specs.Room.{greatest_moment, payload_limit};
 ghost use Rattle.payload_laws.specs.Holders.{record_size, position_taken, scrubbed_by};
 ghost use Rattle.delf_book.specs.Books.{IsCrashSafe, IsDurable};
@@ -41,6 +42,7 @@ pub(crate) fn add<G: GraphStore, D: Disk>(
     requires no_put { PutsBack (state_of ledger.old) entry.now.what → ⊥ }
     requires dead { dead_carriers dead ≡ scrubbed_by (state_of ledger.old) entry.now.what }
     requires inside { IfSome dead (λ i. i < length ledger.old.history) }
+    requires free { is_held ledger.old.held entry.now.what ≡ false }
 
     ensures ok { OnOk result (HasEntered ledger.old ledger.new entry.now) }
     ensures err { OnErr result (ledger.new ≡ ledger.old) }

@@ -43,7 +43,7 @@ pub struct Book<G: GraphStore, R: Rig> {
 }
 
 impl<G: GraphStore, R: Rig> Model for Book<G, R> {
-    ghost use Rattle.std.specs.Prelude.{◌≡◌, true, false, None, vec_capacity};
+    ghost use Rattle.std.specs.Prelude.{◌≡◌, true, false, [], None, vec_capacity};
     ghost use Rattle.delf_disk.specs.Plain.{Plain};
     ghost use Rattle.delf_book.specs.Books.{Booked};
     ghost use Rattle.delf_model.specs.Step.{after};
@@ -57,7 +57,8 @@ impl<G: GraphStore, R: Rig> Model for Book<G, R> {
         × (b.down ≡ false → b.beside ≡ None)
         × (b.down ≡ true → Plain (R.Disk.told b.rig) (R.Disk.honest b.rig) → KeepsDown b.ledger.rules b.ledger.history (payloads_in (after b.ledger.rules b.ledger.history) (R.Disk.seen b.rested.value)) b.beside (R.Disk.may_leave b.rig))
         × (Plain (R.Disk.told b.rig) (R.Disk.honest b.rig) → KeepsPayloads b.ledger.rules b.ledger.history (payloads_in (after b.ledger.rules b.ledger.history) (R.Disk.seen b.rested.value)) b.down (R.Disk.seen b.rig) (R.Disk.seen b.opened.value))
-        × KeepsOpening R.Disk.told R.Disk.honest R.Disk.faults b.down b.opened.value b.rig };
+        × KeepsOpening R.Disk.told R.Disk.honest R.Disk.faults b.down b.opened.value b.rig
+        × (b.ledger.held ≡ []) };
 }
 
 impl<G: GraphStore, R: Rig> Book<G, R> {

@@ -1,8 +1,9 @@
 //! The entry of a writing call.
-ghost use Rattle.std.specs.Prelude.{◌≡◌, ◌≤◌, true, None, Ok, Err, length, vec_capacity, OnOk, OnErr};
+ghost use Rattle.std.specs.Prelude.{◌≡◌, ◌≤◌, true, None, Ok, Err, length, vec_capacity, OnOk, OnErr, false};
 ghost use Rattle.delf_disk.specs.Plain.{Plain, SameKind};
 ghost use Rattle.entry_codec.specs.EntryHead.{IsBounded};
 ghost use Rattle.delf_model.specs.Legal.{is_legal};
+ghost use Rattle.delf_model.specs.Order.{is_held};
 ghost use Rattle.delf_model.specs.Room.{greatest_moment, payload_limit};
 ghost use Rattle.payload_laws.specs.Holders.{record_size, position_taken};
 ghost use Rattle.delf_book.specs.declared.faults.EntryFault.TheVariants.{OutOfMemory};
@@ -37,10 +38,12 @@ pub(crate) fn enter<G: GraphStore, D: Disk>(
     requires no_item { position_taken (state_of ledger.old) entry.now.what ≡ None }
     requires no_put { PutsBack (state_of ledger.old) entry.now.what → ⊥ }
     requires rows { scrubs_rows entry.now.what ≡ true }
+    requires free { is_held ledger.old.held entry.now.what ≡ false }
 
     ensures rules { ledger.new.rules ≡ ledger.old.rules }
     ensures ok { OnOk result (HasEntered ledger.old ledger.new entry.now) }
     ensures err { OnErr result (ledger.new.history ≡ ledger.old.history) }
+    ensures held { ledger.new.held ≡ ledger.old.held }
     ensures starved { result ≡ Err OutOfMemory → disk.new ≡ disk.old }
     ensures up { UnlessFailed result (KeepsUp ledger.new.rules ledger.new.history spare ledger.new.spare logs.new.journal logs.new.vault logs.new.carriers.items (vec_capacity logs.new.carriers) (D.told disk.new) (D.honest disk.new) (D.seen disk.new) (D.may_leave disk.new)) }
 

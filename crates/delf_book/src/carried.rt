@@ -1,7 +1,8 @@
 //! Which journal record carries the payload of a row.
-ghost use Rattle.std.specs.Prelude.{◌≡◌, ◌↔◌, ◌+◌, ◌<◌, ◌++◌, ◌∷◌, [], true, Some, vec_len, vec_capacity, OnOk, OnErr};
+ghost use Rattle.std.specs.Prelude.{◌≡◌, ◌↔◌, ◌+◌, ◌<◌, ◌++◌, ◌∷◌, [], true, Some, vec_len, vec_capacity, OnOk, OnErr, false};
 ghost use Rattle.delf_disk.specs.declared.area.Area.TheVariants.{Journal as JournalArea, Vault as VaultArea};
 ghost use Rattle.delf_model.specs.Legal.{is_legal};
+ghost use Rattle.delf_model.specs.Order.{is_held};
 ghost use Rattle.delf_book.specs.Keeping.{KeepsCarriers};
 ghost use Rattle.ledger.specs.Ledgers.{state_of, IsSame, HasEntered};
 ghost use Rattle.delf_book.specs.Reads.{TellsLive, carriers_of_what, carriers_of_row};
@@ -21,6 +22,7 @@ pub(crate) fn take<G: GraphStore>(
 ) -> Result<(), AllocError>
     requires carriers { KeepsCarriers ledger.old.rules ledger.old.history carriers.old.items }
     requires legal { is_legal (state_of ledger.old) entry.now ≡ true }
+    requires free { is_held ledger.old.held entry.now.what ≡ false }
     ensures ok { OnOk result (HasEntered ledger.old ledger.new entry.now) }
     ensures err { OnErr result (IsSame ledger.old ledger.new) }
     ensures carriers { KeepsCarriers ledger.new.rules ledger.new.history carriers.new.items }

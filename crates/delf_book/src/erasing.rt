@@ -1,5 +1,5 @@
 //! Cuts and erasures: the row that goes is logged before it goes.
-ghost use Rattle.std.specs.Prelude.{◌≡◌, ◌+◌, ◌≤◌, ◌<◌, ℕ, [], ◌∷◌, ◌++◌, true, length, vec_capacity, IsTrue, IfOk, OnOk, OnErr, is_some, map};
+ghost use Rattle.std.specs.Prelude.{◌≡◌, ◌+◌, ◌≤◌, ◌<◌, ℕ, [], ◌∷◌, ◌++◌, true, length, vec_capacity, IsTrue, IfOk, OnOk, OnErr, is_some, map, false};
 ghost use Rattle.delf_disk.specs.Causes.{HasCause};
 ghost use Rattle.delf_disk.specs.Images.{Same};
 ghost use Rattle.delf_disk.specs.Moments.{Runs};
@@ -12,6 +12,7 @@ ghost use Rattle.entry_codec.specs.declared.limits.TheConstants.{LARGEST_PAYLOAD
 ghost use Rattle.entry_codec.specs.EntryHead.{entry_head, IsBounded};
 ghost use Rattle.entry_codec.specs.ItemHead.{item_size, IsTypeBounded};
 ghost use Rattle.delf_model.specs.Legal.{is_legal};
+ghost use Rattle.delf_model.specs.Order.{is_held};
 ghost use Rattle.delf_model.specs.Room.{greatest_moment};
 ghost use Rattle.delf_model.specs.Payloads.{Journal, last_carrier};
 ghost use Rattle.delf_model.specs.Step.{after};
@@ -52,6 +53,7 @@ pub(crate) fn take_row<G: GraphStore, D: Disk>(
     requires ready { IsTrue (is_ready (G.is_ready_object ledger.old.store) (G.is_ready_edge ledger.old.store) ledger.old entry.now.what) }
     requires bounded { IsBounded entry.now.what }
     requires taken { IsTrue (is_some (position_taken (state_of ledger.old) entry.now.what)) }
+    requires free { is_held ledger.old.held entry.now.what ≡ false }
 
     ensures ok { OnOk result (HasEntered ledger.old ledger.new entry.now) }
     ensures err { OnErr result (ledger.new ≡ ledger.old) }

@@ -35,7 +35,9 @@ impl<G: GraphStore> Model for Fold<G> {
 
     ghost view = { λ f. f.ledger };
 
-    ghost invariant = { λ f. KeepsCarriers f.ledger.rules f.ledger.history f.carriers.items };
+    ghost use Rattle.std.specs.Prelude.{◌≡◌, []};
+
+    ghost invariant = { λ f. KeepsCarriers f.ledger.rules f.ledger.history f.carriers.items × (f.ledger.held ≡ []) };
 }
 
 impl<G: GraphStore> Fold<G> {

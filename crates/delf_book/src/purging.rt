@@ -1,5 +1,5 @@
 //! Purges: once a job is purged, none of its payloads that were not put back is needed.
-ghost use Rattle.std.specs.Prelude.{◌≡◌, ◌+◌, ◌≤◌, ℕ, [], true, length, vec_capacity, IsTrue, OnOk, OnErr, List, map};
+ghost use Rattle.std.specs.Prelude.{◌≡◌, ◌+◌, ◌≤◌, ℕ, [], true, length, vec_capacity, IsTrue, OnOk, OnErr, List, map, false};
 ghost use Rattle.delf_disk.specs.Causes.{HasCause};
 ghost use Rattle.delf_disk.specs.declared.area.Area.TheVariants.{Vault as VaultArea};
 ghost use Rattle.delf_disk.specs.Moments.{Leaves};
@@ -9,6 +9,7 @@ ghost use Rattle.entry_codec.specs.EntryHead.{IsBounded};
 ghost use Rattle.delf_model.specs.declared.entry.Entry.{Entry};
 ghost use Rattle.delf_model.specs.declared.entry.What.TheVariants.{Purge};
 ghost use Rattle.delf_model.specs.Legal.{is_legal};
+ghost use Rattle.delf_model.specs.Order.{is_held};
 ghost use Rattle.delf_model.specs.Room.{greatest_moment};
 ghost use Rattle.delf_model.specs.Payloads.{Payloads};
 ghost use Rattle.delf_model.specs.RuleSet.{RuleSet};
@@ -48,6 +49,7 @@ pub(crate) fn purge_job<G: GraphStore, D: Disk>(
     requires ready { IsTrue (is_ready (G.is_ready_object ledger.old.store) (G.is_ready_edge ledger.old.store) ledger.old entry.now.what) }
     requires bounded { IsBounded entry.now.what }
     requires purge { IsPurge entry.now.what }
+    requires free { is_held ledger.old.held entry.now.what ≡ false }
 
     ensures ok { OnOk result (HasEntered ledger.old ledger.new entry.now) }
     ensures err { OnErr result (ledger.new ≡ ledger.old) }

@@ -1,11 +1,12 @@
 //! Puts: a row goes back with the payload that was logged with it, or it is listed.
-ghost use Rattle.std.specs.Prelude.{◌≡◌, ◌+◌, ◌<◌, ◌≤◌, ◌++◌, ◌∷◌, ℕ, [], true, length, map, take, vec_capacity, IsTrue, IfOk, IfErr, OnOk, OnErr};
+ghost use Rattle.std.specs.Prelude.{◌≡◌, ◌+◌, ◌<◌, ◌≤◌, ◌++◌, ◌∷◌, ℕ, [], true, length, map, take, vec_capacity, IsTrue, IfOk, IfErr, OnOk, OnErr, false};
 ghost use Rattle.delf_disk.specs.Causes.{HasCause};
 ghost use Rattle.delf_disk.specs.Moments.{Leaves};
 ghost use Rattle.delf_disk.specs.Plain.{Plain, SameKind};
 ghost use Rattle.delf_disk.specs.declared.area.Area.TheVariants.{Vault as VaultArea};
 ghost use Rattle.delf_model.specs.declared.TheConstants.{LIMIT};
 ghost use Rattle.delf_model.specs.Legal.{is_legal};
+ghost use Rattle.delf_model.specs.Order.{is_held};
 ghost use Rattle.delf_model.specs.Room.{payload_limit};
 ghost use Rattle.delf_model.specs.Payloads.{Payloads};
 ghost use Rattle.store_laws.specs.Moves.{RestIn};
@@ -43,6 +44,7 @@ pub(crate) fn put_item<G: GraphStore, D: Disk>(
     requires legal { is_legal (state_of ledger.old) entry.now ≡ true }
     requires ready { IsTrue (is_ready (G.is_ready_object ledger.old.store) (G.is_ready_edge ledger.old.store) ledger.old entry.now.what) }
     requires put { IsPutOf entry.now.what i }
+    requires free { is_held ledger.old.held entry.now.what ≡ false }
 
     ensures ok { OnOk result (HasEntered ledger.old ledger.new entry.now) }
     ensures err { OnErr result (ledger.new ≡ ledger.old) }
@@ -97,6 +99,7 @@ fn put_back<G: GraphStore, D: Disk>(
     requires legal { is_legal (state_of ledger.old) entry.now ≡ true }
     requires ready { IsTrue (is_ready (G.is_ready_object ledger.old.store) (G.is_ready_edge ledger.old.store) ledger.old entry.now.what) }
     requires puts { PutsBackItem (state_of ledger.old) entry.now.what i }
+    requires free { is_held ledger.old.held entry.now.what ≡ false }
 
     ensures ok { OnOk result (HasEntered ledger.old ledger.new entry.now) }
     ensures err { OnErr result (ledger.new ≡ ledger.old) }
@@ -191,6 +194,7 @@ fn write_back<G: GraphStore, D: Disk>(
     requires short { length payload.now ≤ payload_limit }
     requires payload { Plain (D.told disk.old) (D.honest disk.old) → (e : Payloads)
         → RestIn ledger.old.rules ledger.old.history e (D.may_leave disk.old) → IsPayloadOf (state_of ledger.old) i e payload.now }
+    requires free { is_held ledger.old.held entry.now.what ≡ false }
 
     ensures ok { OnOk result (HasEntered ledger.old ledger.new entry.now) }
     ensures err { OnErr result (ledger.new ≡ ledger.old) }

@@ -3,7 +3,7 @@ ghost use Rattle.std.specs.Prelude.{◌≡◌, ◌≢◌, ◌+◌, ◌<◌, ◌�
 ghost use Rattle.delf_disk.specs.Moments.{Leaves};
 ghost use Rattle.delf_disk.specs.Plain.{Plain, SameKind};
 ghost use Rattle.delf_model.specs.Legal.{is_legal};
-ghost use Rattle.delf_model.specs.Order.{is_step};
+ghost use Rattle.delf_model.specs.Order.{is_step, is_held};
 ghost use Rattle.delf_model.specs.Payloads.{Payloads};
 ghost use Rattle.store_laws.specs.Moves.{RestIn};
 ghost use Rattle.delf_book.specs.declared.stepping.Halt.TheVariants.{OutOfMemory};
@@ -81,10 +81,12 @@ pub(crate) fn step<G: GraphStore, D: Disk>(
     requires up { KeepsUp ledger.old.rules ledger.old.history spare ledger.old.spare logs.old.journal logs.old.vault logs.old.carriers.items (vec_capacity logs.old.carriers) (D.told disk.old) (D.honest disk.old) (D.seen disk.old) (D.may_leave disk.old) }
     requires legal { is_legal (state_of ledger.old) entry.now ≡ true }
     requires step { is_step entry.now.what ≡ true }
+    requires free { is_held ledger.old.held entry.now.what ≡ false }
 
     ensures rules { ledger.new.rules ≡ ledger.old.rules }
     ensures ok { OnOk result (HasEntered ledger.old ledger.new entry.now) }
     ensures err { OnErr result (ledger.new.history ≡ ledger.old.history) }
+    ensures held { ledger.new.held ≡ ledger.old.held }
     ensures up { IfOk result (λ left. KeepsUp ledger.new.rules ledger.new.history left ledger.new.spare logs.new.journal logs.new.vault logs.new.carriers.items (vec_capacity logs.new.carriers) (D.told disk.new) (D.honest disk.new) (D.seen disk.new) (D.may_leave disk.new)) }
     ensures stays { IfWaits result (KeepsUp ledger.new.rules ledger.new.history spare ledger.new.spare logs.new.journal logs.new.vault logs.new.carriers.items (vec_capacity logs.new.carriers) (D.told disk.new) (D.honest disk.new) (D.seen disk.new) (D.may_leave disk.new)) }
 
@@ -184,6 +186,7 @@ fn make_step<G: GraphStore, D: Disk>(
     requires legal { is_legal (state_of ledger.old) entry.now ≡ true }
     requires ready { IsTrue (is_ready (G.is_ready_object ledger.old.store) (G.is_ready_edge ledger.old.store) ledger.old entry.now.what) }
     requires step { is_step entry.now.what ≡ true }
+    requires free { is_held ledger.old.held entry.now.what ≡ false }
 
     ensures ok { OnOk result (HasEntered ledger.old ledger.new entry.now) }
     ensures err { OnErr result (ledger.new ≡ ledger.old) }

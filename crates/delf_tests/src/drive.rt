@@ -167,11 +167,14 @@ fn is_numbered(rules: &Rules, call: &Call) -> bool
     }
 }
 
-/// Enters an entry for which it makes room, and which has to be legal.
+/// Enters an entry for which it makes room, and which has to be legal and take the row of no held step.
 fn enter<G: GraphStore>(ledger: &mut Ledger<G>, entry: &Entry) -> Result<(), Fail> {
     ledger.make_ready(&entry.what)?;
     if !ledger.is_legal(entry) {
         return Err(Fail::from("an entry that is not legal"));
+    }
+    if ledger.is_held(&entry.what) {
+        return Err(Fail::from("an entry that a held step stands against"));
     }
     ledger.enter(entry);
     Ok(())

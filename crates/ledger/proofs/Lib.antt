@@ -2,4 +2,5 @@ pub mod Allowing
 pub mod Bounds
 pub mod Changes
 pub mod Entering
+pub mod Holding
 pub mod Judging

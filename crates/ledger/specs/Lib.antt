@@ -1,4 +1,5 @@
 pub mod Edits
+pub mod Held
 pub mod Keeps
 pub mod Ledgers
 pub mod Parts

@@ -1,4 +1,4 @@
-ghost use Rattle.std.specs.Prelude.{◌≡◌, ◌+◌, ◌*◌, ◌≤◌, ◌&&◌, ℕ, IfOk, drop, length, nat_eq, [], true, false, Some, None, OnOk, IsTrue, slice_get, option_map};
+ghost use Rattle.std.specs.Prelude.{◌≡◌, ◌+◌, ◌*◌, ◌<◌, ◌≤◌, ◌++◌, ◌∷◌, ◌&&◌, ℕ, IfOk, drop, length, nat_eq, [], true, false, Some, None, OnOk, IsTrue, slice_get, option_map};
 ghost use Rattle.entry_codec.specs.EntryHead.{AreEntries};
 ghost use Rattle.delf_model.specs.declared.entry.What.{What};
 ghost use Rattle.delf_model.specs.RuleSet.{is_refcount};
@@ -9,12 +9,14 @@ ghost use Rattle.delf_model.specs.Payloads.{keeps_payload as keeps_payload_of};
 ghost use Rattle.delf_model.specs.Legal.{Legal, is_legal};
 ghost use Rattle.delf_model.specs.Room.{used, owed, greatest_moment};
 ghost use Rattle.delf_model.specs.Reply.{reply};
-ghost use Rattle.delf_model.specs.Order.{first_step};
+ghost use Rattle.delf_model.specs.Order.{first_step, is_held as is_held_in};
+ghost use Rattle.held_laws.specs.Held.{takes_row};
 ghost use Rattle.delf_model.specs.Report.{status as status_of, job_at as line_at, listed_at as listed_of, items_of};
 ghost use Rattle.delf_model.specs.Sound.{FirstIsLegal};
 ghost use Rattle.job_table.specs.Next.{IsSerial, IsFreeNext};
-ghost use Rattle.job_table.specs.Table.{IsTableOf, IsGraphOf, item_at as item_of, top_seat as greatest_seat};
+ghost use Rattle.job_table.specs.Table.{IsTableOf, IsGraphOf, item_at as item_of, top_seat as greatest_seat, given_up};
 ghost use Rattle.job_table.specs.Unput.{next_unput as first_unput};
+ghost use Rattle.ledger.specs.Held.{IsOnceLegal, AreHeld};
 ghost use Rattle.ledger.specs.Parts.{what_of};
 ghost use Rattle.ledger.specs.Ledgers.{position_back as position_back_of, state_of, is_ready, is_numbered_call, record_size as record_size_of, found, IsSame, HasEntered};
 
@@ -27,6 +29,7 @@ use delf_model::{
     Call, Entry, GraphStore, Item, Job, JobLine, JobName, Listed, Moment, ObjectId, ObjectRow,
     Refusal, Rules, Status, Tag, What,
 };
+use held_laws::held_steps_stay;
 use job_table::{JobTable, Next};
 use live_writes::judge;
 use order_laws::first_step_is_legal;
@@ -309,12 +312,50 @@ impl<G: GraphStore> Ledger<G> {
         make_room(&mut self.graph, &edit)
     }
 
-    /// Enters a legal entry for which room was made. Takes no memory.
+    /// Holds a legal Cut or Erase that is not held. It stays legal until it is entered. Takes no memory, and the room of one.
+    pub fn hold(&mut self, step: &What)
+        requires takes { takes_row step.now ≡ true }
+        requires legal { IsOnceLegal (state_of self.old) step.now }
+        requires free { is_held_in self.old.held step.now ≡ false }
+        requires spare { 0 < self.old.spare }
+        ensures same { self.new ≡ record self.old { held = self.old.held ++ step.now ∷ []; spare = self.new.spare } }
+        ensures spare { self.old.spare ≤ self.new.spare + 1 }
+    {
+        held_steps_stay();
+        self.jobs.hold(step);
+    }
+
+    /// Gives a held step up. Takes no memory.
+    pub fn give_up(&mut self, step: &What)
+        requires { is_held_in self.old.held step.now ≡ true }
+        ensures { self.new ≡ record self.old { held = given_up step.now self.old.held } }
+    {
+        self.jobs.give_up(step);
+    }
+
+    /// The number of held steps.
+    pub fn held(&self) -> u32
+        ensures value { result ≡ length self.now.held }
+        ensures are { AreHeld (state_of self.now) self.now.held }
+    {
+        self.jobs.held()
+    }
+
+    /// Whether a step that takes the same row is held, whichever job it names.
+    pub fn is_held(&self, step: &What) -> bool
+        ensures { result ≡ is_held_in self.now.held step.now }
+    {
+        self.jobs.is_held(step)
+    }
+
+    /// Enters a legal entry for which room was made, and which takes the row of no held step. Takes no memory.
     pub fn enter(&mut self, entry: &Entry)
         requires legal { is_legal (state_of self.old) entry.now ≡ true }
         requires ready { IsTrue (is_ready (G.is_ready_object self.old.store) (G.is_ready_edge self.old.store) self.old entry.now.what) }
+        requires free { is_held_in self.old.held entry.now.what ≡ false }
         ensures { HasEntered self.old self.new entry.now }
     {
+        held_steps_stay();
         spell(&self.rules, entry);
         let edit = edit_of(&self.graph, &self.jobs, &self.rules, entry);
         self.jobs.apply(&self.graph, &self.rules, entry);

@@ -63,6 +63,15 @@ enter-requires-clause-rows g c =
     let entry = entry_here view c.args.self.now c.self.view_is c.args.now c.args.seat c.args.call.now c.moment_at-moment.result m_is c.in_ok-what.what c.in_ok-what.ensures.reply objects c.requires.numbers in
     entry.rows
 
+pub enter-requires-clause-free : goal.enter-requires-clause-free
+enter-requires-clause-free g c =
+    let view : Booked g.row.G.Denot g.row.R.Denot = (record { rules = c.self.inside.ledger.rules; history = c.self.inside.ledger.history; payloads = payloads_in (after c.self.inside.ledger.rules c.self.inside.ledger.history) (g.R.Disk.seen c.self.inside.rested.value); store = c.self.inside.ledger.store; spare = c.self.inside.spare; down = c.self.inside.down; beside = c.self.inside.beside; rig = c.self.inside.rig; opened = c.self.inside.opened.value }) in
+    let m_is : c.moment_at-moment.result ≡ moment_of (state_in view) c.args.now =
+    c.moment_at-moment.ensures ∙ ap (λ (k : ℕ). max k (min c.args.now greatest_moment)) c.moment.ensures.value in
+    let objects : length c.self.inside.ledger.rules.objects ≤ 64 = subst (λ (r : RuleSet). length r.objects ≤ 64) c.rules.ensures (omega (arith, c.objects_len-kinds.ensures.value, c.objects_len-kinds.ensures.below)) in
+    let entry = entry_here view c.args.self.now c.self.view_is c.args.now c.args.seat c.args.call.now c.moment_at-moment.result m_is c.in_ok-what.what c.in_ok-what.ensures.reply objects c.requires.numbers in
+    entry.unheld c.self.inside.ledger.held
+
 pub returns-in-Ok-clause-crash : goal.returns-in-Ok-clause-crash
 returns-in-Ok-clause-crash g c = λ plain what is.
     let view : Booked g.row.G.Denot g.row.R.Denot = (record { rules = c.self.inside.ledger.rules; history = c.self.inside.ledger.history; payloads = payloads_in (after c.self.inside.ledger.rules c.self.inside.ledger.history) (g.R.Disk.seen c.self.inside.rested.value); store = c.self.inside.ledger.store; spare = c.self.inside.spare; down = c.self.inside.down; beside = c.self.inside.beside; rig = c.self.inside.rig; opened = c.self.inside.opened.value }) in
@@ -154,6 +163,7 @@ invariant_of-self g c = (
       (g.met.R.Disk.reads_as_image c.self.inside.rig here) (g.met.R.Disk.reads_as_image c.enter.new.disk next) areas.rests
       (subst (λ (p : List ℕ). IsDurable g.R.Disk.may_leave l.rules l.history entry p c.self.inside.rig c.enter.new.disk) c.payload_of-payload.ensures durable (payloads_in (after l.rules l.history) (g.R.Disk.seen c.self.inside.rig)) areas.rests))),
   opening_still c.self.invariant.4 c.enter.ensures.kind c.in-Ok.ensures.cause,
+  c.enter.ensures.held ∙ c.self.invariant.5,
 )
 
 pub invariant_of-self-in-Err-OutOfMemory : goal.invariant_of-self-in-Err-OutOfMemory
@@ -170,6 +180,7 @@ invariant_of-self-in-Err-OutOfMemory g c =
           (subst (λ (x : g.row.R.Denot). KeepsPayloads l.rules l.history (payloads_in (after l.rules l.history) (g.R.Disk.seen c.self.inside.rested.value)) c.self.inside.down (g.R.Disk.seen x) (g.R.Disk.seen c.self.inside.opened.value)) (sym disk)
           (c.self.invariant.3 (was_plain c.enter.ensures.kind plain))),
       opening_still c.self.invariant.4 c.enter.ensures.kind (ap g.R.Disk.faults disk),
+      c.enter.ensures.held ∙ c.self.invariant.5,
     )
 
 pub invariant_of-self-in-Err-Failed : goal.invariant_of-self-in-Err-Failed
@@ -194,4 +205,5 @@ invariant_of-self-in-Err-Failed g c =
           (keeps_fallen l.rules l.history e c.self.inside.down (g.R.Disk.seen c.self.inside.rig) (g.R.Disk.seen c.enter.new.disk) (g.R.Disk.seen c.self.inside.opened.value)
           (c.self.invariant.3 (was_plain c.enter.ensures.kind plain))),
       opening_fell c.self.invariant.4 c.enter.ensures.kind cause.0 cause.1,
+      c.enter.ensures.held ∙ c.self.invariant.5,
     )

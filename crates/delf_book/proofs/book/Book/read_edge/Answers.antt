@@ -53,6 +53,7 @@ invariant_of-self g c = (
       (g.R.Disk.seen c.self.inside.opened.value) c.if-self.false (c.self.invariant.3 here) now
       ((c.read_edge_at.ensures.crash here l.rules l.history e ((c.self.invariant.0 c.if-self.false).areas here).rests).now now (g.met.R.Disk.reads_as_image c.read_edge_at.new.disk plain)).1,
   opening_still c.self.invariant.4 c.read_edge_at.ensures.kind c.in-Ok.ensures.cause.stays,
+  c.self.invariant.5,
 )
 
 pub returns-in-Ok-clause-crash : goal.returns-in-Ok-clause-crash
@@ -99,4 +100,5 @@ invariant_of-self-in-Err g c = (
       keeps_fallen l.rules l.history (payloads_in (after l.rules l.history) (g.R.Disk.seen c.self.inside.rested.value)) c.self.inside.down (g.R.Disk.seen c.self.inside.rig)
       (g.R.Disk.seen c.read_edge_at.new.disk) (g.R.Disk.seen c.self.inside.opened.value) (c.self.invariant.3 (was_plain c.read_edge_at.ensures.kind plain)),
   opening_fell c.self.invariant.4 c.read_edge_at.ensures.kind c.in-Err.ensures.cause.later c.in-Err.ensures.cause.failed,
+  c.self.invariant.5,
 )

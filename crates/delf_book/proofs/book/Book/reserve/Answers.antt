@@ -1,4 +1,4 @@
-use Rattle.std.proofs.Common.{List, vec_capacity}
+use Rattle.std.proofs.Common.{List, vec_capacity, ◌∙◌}
 use Rattle.delf_model.specs.declared.entry.Entry.{Entry}
 use Rattle.delf_model.specs.RuleSet.{RuleSet}
 use Rattle.delf_model.specs.Step.{after}
@@ -26,6 +26,7 @@ invariant_of-self g c =
           at_ledger (λ (a : RuleSet) (h : List Entry). KeepsPayloads a h (payloads_in (after a h) (g.R.Disk.seen c.self.inside.rested.value)) c.self.inside.down (g.R.Disk.seen c.self.inside.rig) (g.R.Disk.seen c.self.inside.opened.value))
           l.rules m.rules l.history m.history r.ledger.rules r.ledger.history (c.self.invariant.3 plain),
       c.self.invariant.4,
+      r.ledger.held ∙ c.self.invariant.5,
     )
 
 pub invariant_of-self-else-n-self : goal.invariant_of-self-else-n-self
@@ -46,6 +47,7 @@ invariant_of-self-else-n-self g c =
           at_ledger (λ (a : RuleSet) (h : List Entry). KeepsPayloads a h (payloads_in (after a h) (g.R.Disk.seen c.self.inside.rested.value)) c.self.inside.down (g.R.Disk.seen c.self.inside.rig) (g.R.Disk.seen c.self.inside.opened.value))
           l.rules m.rules l.history m.history r.ledger.rules r.ledger.history (c.self.invariant.3 plain),
       c.self.invariant.4,
+      r.ledger.held ∙ c.self.invariant.5,
     )
 
 pub invariant_of-self-in-Err : goal.invariant_of-self-in-Err
@@ -66,4 +68,5 @@ invariant_of-self-in-Err g c =
           at_ledger (λ (a : RuleSet) (h : List Entry). KeepsPayloads a h (payloads_in (after a h) (g.R.Disk.seen c.self.inside.rested.value)) c.self.inside.down (g.R.Disk.seen c.self.inside.rig) (g.R.Disk.seen c.self.inside.opened.value))
           l.rules m.rules l.history m.history r.ledger.rules r.ledger.history (c.self.invariant.3 plain),
       c.self.invariant.4,
+      r.ledger.held ∙ c.self.invariant.5,
     )

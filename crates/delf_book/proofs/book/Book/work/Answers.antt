@@ -11,6 +11,7 @@ use Rattle.delf_disk.proofs.Flags.{was_plain, stays_plain}
 use Rattle.delf_disk.specs.Moments.{Leaves}
 use Rattle.delf_disk.specs.Plain.{Plain}
 use Rattle.delf_model.specs.declared.entry.What.{What}
+use Rattle.delf_model.specs.Order.{is_held}
 use Rattle.delf_model.specs.Room.{greatest_moment, moment_of}
 use Rattle.delf_model.specs.Step.{after}
 use Rattle.delf_model.specs.Payloads.{Payloads, payloads_after}
@@ -161,6 +162,7 @@ invariant_of-self g c = (
       (g.met.R.Disk.reads_as_image c.self.inside.rig here) (g.met.R.Disk.reads_as_image c.step.new.disk next) areas.rests
       (durable (payloads_in (after l.rules l.history) (g.R.Disk.seen c.self.inside.rig)) areas.rests))),
   opening_still c.self.invariant.4 c.step.ensures.kind c.in-Ok.ensures.cause,
+  c.step.ensures.held ∙ c.self.invariant.5,
 )
 
 pub invariant_of-self-in-Err-OutOfMemory : goal.invariant_of-self-in-Err-OutOfMemory
@@ -177,6 +179,7 @@ invariant_of-self-in-Err-OutOfMemory g c =
           (subst (λ (x : g.row.R.Denot). KeepsPayloads l.rules l.history (payloads_in (after l.rules l.history) (g.R.Disk.seen c.self.inside.rested.value)) c.self.inside.down (g.R.Disk.seen x) (g.R.Disk.seen c.self.inside.opened.value)) (sym disk)
           (c.self.invariant.3 (was_plain c.step.ensures.kind plain))),
       opening_still c.self.invariant.4 c.step.ensures.kind (ap g.R.Disk.faults disk),
+      c.step.ensures.held ∙ c.self.invariant.5,
     )
 
 pub invariant_of-self-in-Err-Damaged : goal.invariant_of-self-in-Err-Damaged
@@ -199,6 +202,7 @@ invariant_of-self-in-Err-Damaged g c =
           (keeps_still l.rules l.history (payloads_in (after l.rules l.history) (g.R.Disk.seen c.self.inside.rested.value)) c.self.inside.down (g.R.Disk.seen c.self.inside.rig) (g.R.Disk.seen c.self.inside.opened.value)
           c.if-self.false (c.self.invariant.3 here) (g.R.Disk.seen c.step.new.disk) (read.now (g.R.Disk.seen c.step.new.disk) (g.met.R.Disk.reads_as_image c.step.new.disk plain)).1),
       opening_still c.self.invariant.4 c.step.ensures.kind cause,
+      c.step.ensures.held ∙ c.self.invariant.5,
     )
 
 pub invariant_of-self-in-Err-Failed : goal.invariant_of-self-in-Err-Failed
@@ -223,4 +227,8 @@ invariant_of-self-in-Err-Failed g c =
           (keeps_fallen l.rules l.history e c.self.inside.down (g.R.Disk.seen c.self.inside.rig) (g.R.Disk.seen c.step.new.disk) (g.R.Disk.seen c.self.inside.opened.value)
           (c.self.invariant.3 (was_plain c.step.ensures.kind plain))),
       opening_fell c.self.invariant.4 c.step.ensures.kind cause.0 cause.1,
+      c.step.ensures.held ∙ c.self.invariant.5,
     )
+
+pub step-requires-clause-free : goal.step-requires-clause-free
+step-requires-clause-free g c = ap (λ (held : List What). is_held held c.in-Some.what) c.self.invariant.5

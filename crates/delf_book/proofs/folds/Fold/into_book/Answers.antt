@@ -15,7 +15,7 @@ invariant_of-result g c =
     let seen : g.row.R.Denot → Areas = g.R.Disk.seen in (
       λ up. record {
         logs = subst (λ (x : Ledgered g.row.G.Denot). KeepsLogs x.rules x.history c.args.journal c.args.vault) (sym c.self.view_is) c.requires.logs;
-        carried = c.self.invariant;
+        carried = c.self.invariant.0;
         room = first_of (search rules, grind (arith, common_steps));
         areas = λ plain. subst (λ (x : Ledgered g.row.G.Denot). KeepsAreas x.rules x.history (seen c.args.rig) (g.R.Disk.may_leave c.args.rig)) (sym c.self.view_is) (c.requires.areas plain);
       },
@@ -31,4 +31,5 @@ invariant_of-result g c =
         later = omega arith;
         rose = λ is. absurd (false≢true is);
       }),
+      c.self.invariant.1,
     )
