@@ -4,7 +4,7 @@ use Rattle.std.specs.Prelude.{slice_get, option_map, slice_index_or}
 use Rattle.std.proofs.lemmas.Bool.{cases_lt}
 use Rattle.std.proofs.Math.Seq.{take-append_seam}
 use Rattle.std.proofs.lemmas.List.{length-map, length-take-le}
-use Rattle.std.proofs.lemmas.Option.{slice_get-map, slice_get_within, slice_get-get_or, get_or_from_slice_get}
+use Rattle.std.proofs.lemmas.Option.{slice_get-map, slice_get_past, slice_get_within, slice_get-get_or, get_or_from_slice_get}
 use Rattle.delf_model.specs.declared.entry.Entry.{Entry}
 use Rattle.delf_model.specs.declared.script.Lane.{Lane}
 use Rattle.delf_model.specs.declared.script.LaneCommand.{LaneCommand}
@@ -20,14 +20,13 @@ use Rattle.delf_service.specs.Follows.{Follows, IsMoment}
 use Rattle.delf_service.specs.FollowLaws.{Follows-itself, Follows-chain}
 use Rattle.delf_service.specs.Lanes.{HasCommand, LaneTold, Ended}
 use Rattle.delf_service.specs.Openings.{HasRoom, HasRooms, has_next, OpenedAt, RanLanes}
-use Rattle.delf_service.specs.Rows.{commands_at, IsReady, IsRun, IsRowRun}
+use Rattle.delf_service.specs.Rows.{commands_in, commands_at, IsReady, IsRun, IsRowRun}
 use Rattle.delf_service.specs.Seats.{Starts, Closed}
 use Rattle.delf_service.specs.Standings.{seat_of, laneless}
 use Rattle.delf_service.proofs.Joining.{map-push}
 use Rattle.delf_service.proofs.Lanes.{told_later, told_nothing}
 use Rattle.delf_service.proofs.Numbers.{fresh_from}
 use Rattle.delf_service.proofs.Places.{push_cases}
-use Rattle.delf_service.proofs.Runs.{commands_past}
 
 abbrev SeatView : Type 0
 SeatView = View Standing Entry
@@ -112,6 +111,10 @@ some_at : {A : Type 0} (xs : List A) (k : ℕ) → k < length xs → (x : A) × 
 some_at [] k less = absurd (omega (arith, less))
 some_at (x ∷ xs) zero less = (x, refl)
 some_at (x ∷ xs) (suc k) less = some_at xs k (omega (arith, less))
+
+-- past the lanes there are no commands
+commands_past : (lanes : List Lane) (k : ℕ) → length lanes ≤ k → commands_at lanes k ≡ []
+commands_past lanes k le = ap commands_in (slice_get_past lanes k le)
 
 -- the seat of a lane, as it is opened
 module _ (first : Standing) where

@@ -2,8 +2,8 @@
 //! whatever their order.
 //!
 //! A step of a worker is made whole in one turn, so its digest is computed while the others wait: `Gate` has `after`
-//! alone, and `work` holds no claim between two turns. `run_lanes` runs lanes at once and makes the steps that are left
-//! behind them, with workers beside the lanes.
+//! alone, and `work` holds no claim between two turns. `run_lanes` runs lanes at once with workers beside them, and then
+//! makes the steps that are left.
 #![tactic(auto)]
 
 mod answers;
