@@ -140,12 +140,14 @@ impl OpenFiles {
 
 // Opens or makes both files, and syncs their folder, so that their names outlast a crash.
 //
-// The lock on the journal comes before all else that the store would show. It goes with the open file,
-// so the end of the process, also by a kill, gives it back.
+// The lock on the journal comes before all else that the store would show. The vault has one of its own: where both names
+// lead to one file, or two folders share one, the second lock is refused. A lock goes with the open file, so the end of
+// the process, also by a kill, gives it back.
 fn open_files<R: Files<File = File>>(rt: &R, paths: &Paths) -> io::Result<OpenFiles> {
     let journal = open_file(rt, paths.journal.as_str())?;
     journal.try_lock()?;
     let vault = open_file(rt, paths.vault.as_str())?;
+    vault.try_lock()?;
     let mut how = OpenOptions::new();
     how.read(true);
     open(rt, &how, paths.folder.as_str())?.sync_all()?;
@@ -176,7 +178,7 @@ impl Lazy {
         if self.open.is_none() {
             self.open = Some(open_files(rt, &self.paths)?);
         }
-        self.open.as_mut().ok_or(not_open())
+        self.open.as_mut().ok_or_else(not_open)
     }
 
     pub(crate) fn len<R: Files<File = File>>(&mut self, rt: &R, area: Area) -> io::Result<u64> {

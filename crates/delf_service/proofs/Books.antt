@@ -28,18 +28,19 @@ use Rattle.delf_service.specs.declared.answers.Turned.TheVariants as turned
 use Rattle.delf_service.specs.declared.standing.Standing.{Standing}
 use Rattle.delf_service.specs.Asks.{ReadsIn}
 use Rattle.delf_service.specs.Calls.{AnswersIn, Falls, IsDown, entry_in, with_entry}
-use Rattle.delf_service.specs.Standings.{standing_of}
+use Rattle.delf_service.specs.Standings.{standing_in}
 use Rattle.delf_service.specs.Works.{StepsIn}
 use Rattle.delf_service.proofs.Tags.{reply_maker, step_maker}
 
 -- a standing by its parts
-abbrev parts : List Entry → ℕ → Bool → RuleSet → Option ℕ → Standing
-parts h f d r m = record { history = h; faults = f; down = d; key = record { rules = r; moment = m } }
+abbrev parts : List Entry → ℕ → Bool → RuleSet → Option ℕ → ℕ → Standing
+parts h f d r m n = record { history = h; faults = f; down = d; lanes = n; key = record { rules = r; moment = m } }
 
-same_parts : (h h' : List Entry) (f f' : ℕ) (d d' : Bool) (r r' : RuleSet) (m : Option ℕ) → h ≡ h' → f ≡ f' → d ≡ d' → r ≡ r'
-    → parts h f d r m ≡ parts h' f' d' r' m
-same_parts h h' f f' d d' r r' m p q s t =
-    ap (λ (x : List Entry). parts x f d r m) p ∙ (ap (λ (x : ℕ). parts h' x d r m) q ∙ (ap (λ (x : Bool). parts h' f' x r m) s ∙ ap (λ (x : RuleSet). parts h' f' d' x m) t))
+same_parts : (h h' : List Entry) (f f' : ℕ) (d d' : Bool) (r r' : RuleSet) (m : Option ℕ) (n : ℕ) → h ≡ h' → f ≡ f' → d ≡ d' → r ≡ r'
+    → parts h f d r m n ≡ parts h' f' d' r' m n
+same_parts h h' f f' d d' r r' m n p q s t =
+    ap (λ (x : List Entry). parts x f d r m n) p
+    ∙ (ap (λ (x : ℕ). parts h' x d r m n) q ∙ (ap (λ (x : Bool). parts h' f' x r m n) s ∙ ap (λ (x : RuleSet). parts h' f' d' x m n) t))
 
 -- why a read failed
 abbrev pub failure : {T : Type 0} → Result T BookFault → Option BookFault
@@ -52,26 +53,26 @@ turned_by (Ok (worked.Stepped position)) = Ok (turned.Stepped position)
 turned_by (Ok (worked.Idle len)) = Ok (turned.Idle len)
 turned_by (Err why) = Err why
 
-module _ {G R : Type 0} (faults : R → ℕ) (m : Option ℕ) (old now : Booked G R) where
+module _ {G R : Type 0} (faults : R → ℕ) (m : Option ℕ) (n : ℕ) (old now : Booked G R) where
   abbrev x : Standing
-  x = standing_of faults old m
+  x = standing_in faults old m n
 
   abbrev y : Standing
-  y = standing_of faults now m
+  y = standing_in faults now m n
 
   unchanged : now ≡ old → y ≡ x
-  unchanged same = ap (λ (b : Booked G R). standing_of faults b m) same
+  unchanged same = ap (λ (b : Booked G R). standing_in faults b m n) same
 
   grew : (e : Entry) → old.down ≡ false → Grew old now e → faults now.rig ≡ faults old.rig → y ≡ with_entry x e
-  grew e up g count = same_parts now.history (old.history ++ e ∷ []) (faults now.rig) (faults old.rig) now.down old.down now.rules old.rules m g.history count (g.up ∙ sym up) g.rules
+  grew e up g count = same_parts now.history (old.history ++ e ∷ []) (faults now.rig) (faults old.rig) now.down old.down now.rules old.rules m n g.history count (g.up ∙ sym up) g.rules
 
   stayed : Stayed old now → y ≡ x
-  stayed s = same_parts now.history old.history (faults now.rig) (faults old.rig) now.down old.down now.rules old.rules m s.history (ap faults s.rig) s.down s.rules
+  stayed s = same_parts now.history old.history (faults now.rig) (faults old.rig) now.down old.down now.rules old.rules m n s.history (ap faults s.rig) s.down s.rules
 
   fell : (beside : Option Interrupted) → old.down ≡ false → Fell old now beside → (faults old.rig ≤ faults now.rig) × Rose (faults old.rig) (faults now.rig) → Falls x y
   fell beside up f count = record {
     up = up;
-    left = same_parts now.history old.history (faults now.rig) (faults now.rig) now.down true now.rules old.rules m f.history refl f.down f.rules;
+    left = same_parts now.history old.history (faults now.rig) (faults now.rig) now.down true now.rules old.rules m n f.history refl f.down f.rules;
     later = count.0;
     rose = count.1;
   }
@@ -103,7 +104,7 @@ module _ {G R : Type 0} (faults : R → ℕ) (m : Option ℕ) (old now : Booked 
 
   only_rig : OnlyRig old now → faults now.rig ≡ faults old.rig → y ≡ x
   only_rig o count =
-      same_parts now.history old.history (faults now.rig) (faults old.rig) now.down old.down now.rules old.rules m (ap (λ (b : Booked G R). b.history) o) count
+      same_parts now.history old.history (faults now.rig) (faults old.rig) now.down old.down now.rules old.rules m n (ap (λ (b : Booked G R). b.history) o) count
       (ap (λ (b : Booked G R). b.down) o) (ap (λ (b : Booked G R). b.rules) o)
 
   pub reads_in : {T : Type 0} (row : ObjectRow × Option ℕ) (r : Result T BookFault) (fault : Option BookFault) → ReadAnswers old now r → CountsFault (faults old.rig) (faults now.rig) r
@@ -134,7 +135,7 @@ module _ {G R : Type 0} (faults : R → ℕ) (m : Option ℕ) (old now : Booked 
     logged = h.logged;
     puts = h.puts;
     differ = h.differ;
-    same = same_parts now.history old.history (faults now.rig) (faults old.rig) now.down old.down now.rules old.rules m
+    same = same_parts now.history old.history (faults now.rig) (faults old.rig) now.down old.down now.rules old.rules m n
         (ap (λ (b : Booked G R). b.history) h.rest) count (ap (λ (b : Booked G R). b.down) h.rest) (ap (λ (b : Booked G R). b.rules) h.rest);
   }
 

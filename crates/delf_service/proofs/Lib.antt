@@ -9,3 +9,4 @@ pub mod Places
 pub mod Tags
 pub mod Tellings
 pub mod Turns
+pub mod Workers

@@ -19,14 +19,23 @@ seat_of e = seat_of_tag (tag_of e.what)
 abbrev pub state_at : Standing → State
 state_at s = after s.key.rules s.history
 
--- a book as it stands, where each call hands in this moment
-abbrev pub standing_of : {G R : Type 0} → (R → ℕ) → Booked G R → Option ℕ → Standing
-standing_of faults book moment = record {
+-- a book as it stands, where each call hands in this moment and so many lanes of a block are left
+abbrev pub standing_in : {G R : Type 0} → (R → ℕ) → Booked G R → Option ℕ → ℕ → Standing
+standing_in faults book moment lanes = record {
   history = book.history;
   faults = faults book.rig;
   down = book.down;
+  lanes = lanes;
   key = record { rules = book.rules; moment = moment };
 }
+
+-- the same where no lane is left
+abbrev pub standing_of : {G R : Type 0} → (R → ℕ) → Booked G R → Option ℕ → Standing
+standing_of faults book moment = standing_in faults book moment 0
+
+-- no lane is left any more
+abbrev pub laneless : Standing → Standing
+laneless s = record s { lanes = 0 }
 
 -- any one
 abbrev pub blank_standing : Standing
@@ -34,5 +43,6 @@ blank_standing = record {
   history = [];
   faults = 0;
   down = false;
+  lanes = 0;
   key = record { rules = record { window = 0; objects = []; edges = [] }; moment = None };
 }

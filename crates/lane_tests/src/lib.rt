@@ -1,0 +1,15 @@
+//! Tests of many seats over one book: lanes and workers on threads, over a disk in memory. Nothing else stands here.
+#![tactic(auto)]
+
+#[cfg(test)]
+mod accounts;
+#[cfg(test)]
+mod gates;
+#[cfg(test)]
+mod many;
+#[cfg(test)]
+mod seats;
+#[cfg(test)]
+mod stores;
+#[cfg(test)]
+mod together;
