@@ -12,13 +12,13 @@ from meaning import GREATEST, LIMIT, Run, State, Stop, read_document
 
 MARKS = {"journal": b"DELFJRN1", "vault": b"DELFVLT1"}
 FILES = {"journal": "delf.journal", "vault": "delf.vault"}
-KINDS = {  # kind: name and form of the rest of a head; T seat and count, t type, e edge type, i id, 4 four bytes
-    1: ("create", "Tti"), 2: ("update", "Ti"), 3: ("link", "Teii"), 4: ("unlink", "Teii4"), 5: ("delete", "Ti4"),
-    6: ("restore", "T4"), 7: ("expire", "i"), 8: ("cut", "4eii"), 9: ("erase", "4i"), 10: ("put", "44"), 11: ("purge", "4"),
+KINDS = {  # kind: name and form of the rest of a head; g seat and count, t type, e edge type, i id, 4 four bytes
+    1: ("create", "gti"), 2: ("update", "gi"), 3: ("link", "geii"), 4: ("unlink", "geii4"), 5: ("delete", "gi4"),
+    6: ("restore", "g4"), 7: ("expire", "i"), 8: ("cut", "4eii"), 9: ("erase", "4i"), 10: ("put", "44"), 11: ("purge", "4"),
 }
 NUMBERS = {name: number for number, (name, _) in KINDS.items()}
 ITEMS = {1: ("object", "4it484"), 2: ("edge", "4eii444")}
-WIDTH = {"T": 8, "t": 1, "e": 1, "i": 8, "4": 4, "8": 8}
+WIDTH = {"g": 8, "t": 1, "e": 1, "i": 8, "4": 4, "8": 8}
 OPEN = 0xA5
 
 
