@@ -33,7 +33,7 @@ def read_values(form, data):
     values = []
     for part in form:
         field, data = data[: WIDTH[part]], data[WIDTH[part] :]
-        if part == "T":
+        if part == "g":
             values.append(struct.unpack(">II", field))
             continue
         value = int.from_bytes(field, "big")
@@ -46,7 +46,7 @@ def read_values(form, data):
 def write_values(form, values):
     data = b""
     for part, value in zip(form, values):
-        data += struct.pack(">II", *value) if part == "T" else value.to_bytes(WIDTH[part], "big")
+        data += struct.pack(">II", *value) if part == "g" else value.to_bytes(WIDTH[part], "big")
     return data
 
 
