@@ -1,6 +1,7 @@
 pub mod Asking
 pub mod Callings
 pub mod Carrying
+pub mod Claiming
 pub mod Fallen
 pub mod Fetching
 pub mod Fitting

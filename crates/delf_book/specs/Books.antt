@@ -20,6 +20,7 @@ use Rattle.delf_model.specs.Report.{items_of}
 use Rattle.delf_model.specs.Payloads.{Payloads, payloads_after}
 use Rattle.store_laws.specs.Stores.{digest}
 use Rattle.store_laws.specs.Moves.{RestIn, StandsFor}
+use Rattle.delete_step.specs.Claims.{ClaimView}
 use Rattle.delf_book.specs.Parts.{Interrupted}
 use Rattle.delf_book.specs.declared.faults.EntryFault.{EntryFault}
 use Rattle.delf_book.specs.declared.faults.EntryFault.TheVariants.{OutOfMemory, Failed}
@@ -27,12 +28,13 @@ use Rattle.delf_book.specs.declared.answers.Receipt.{Receipt}
 use Rattle.delf_book.specs.declared.answers.BookFault.{BookFault}
 use Rattle.delf_book.specs.declared.answers.BookFault.TheVariants as fault
 
--- rules and history, the stored graph, how many further deletion steps need no memory, whether a disk fault was answered
--- and what may then stand beside the history, and the disk
+-- rules and history, the stored graph, the held claims by age, how many further deletion steps need no memory, whether a
+-- disk fault was answered and what may then stand beside the history, and the disk
 pub record Booked (G R : Type 0) : Type 0 where
   pub rules : RuleSet
   pub history : List Entry
   pub store : G
+  pub held : List ClaimView
   pub spare : ℕ
   pub down : Bool
   pub beside : Option Interrupted
@@ -104,6 +106,7 @@ pub record Grew {G R : Type 0} (old now : Booked G R) (entry : Entry) : Type 0 w
   pub history : now.history ≡ old.history ++ entry ∷ []
   pub up : now.down ≡ false
   pub beside : now.beside ≡ old.beside
+  pub held : now.held ≡ old.held
 
 -- the disk is as it was, and so is all but the room
 pub record Stayed {G R : Type 0} (old now : Booked G R) : Type 0 where
@@ -111,6 +114,7 @@ pub record Stayed {G R : Type 0} (old now : Booked G R) : Type 0 where
   pub history : now.history ≡ old.history
   pub down : now.down ≡ old.down
   pub beside : now.beside ≡ old.beside
+  pub held : now.held ≡ old.held
   pub spare : old.spare ≤ now.spare
   pub rig : now.rig ≡ old.rig
 
@@ -120,6 +124,7 @@ pub record Fell {G R : Type 0} (old now : Booked G R) (beside : Option Interrupt
   pub history : now.history ≡ old.history
   pub down : now.down ≡ true
   pub is_beside : now.beside ≡ beside
+  pub held : now.held ≡ old.held
   pub spare : old.spare ≤ now.spare
 
 -- a call was accepted: the entry is what the call asks for

@@ -1,4 +1,4 @@
-ghost use Rattle.std.specs.Prelude.{◌≡◌, ◌≤◌, ◌&&◌, length, nat_eq, true, false, None, IfOk, OnErr, Ok};
+ghost use Rattle.std.specs.Prelude.{◌≡◌, ◌≤◌, ◌&&◌, length, nat_eq, true, false, [], None, IfOk, OnErr, Ok};
 ghost use Rattle.delf_disk.specs.Plain.{Plain};
 ghost use Rattle.entry_codec.specs.EntryHead.{AreEntries};
 ghost use Rattle.delf_model.specs.Legal.{Legal, is_legal};
@@ -10,6 +10,7 @@ ghost use Rattle.delf_book.specs.Reads.{TellsLive};
 use crate::book::Book;
 use crate::carried::{keeps, take};
 use crate::logs::Logs;
+use delete_step::Claim;
 use delf_disk::{Area, Rig};
 use delf_model::{Entry, GraphStore, Item, Rules};
 use gate_log::GateLog;
@@ -24,6 +25,7 @@ use vault::Vault;
 pub struct Fold<G: GraphStore> {
     pub(crate) ledger: Ledger<G>,
     pub(crate) carriers: Vec<u32>,
+    pub(crate) claims: Vec<Claim>,
 }
 
 impl<G: GraphStore> Model for Fold<G> {
@@ -36,7 +38,7 @@ impl<G: GraphStore> Model for Fold<G> {
 
     ghost use Rattle.std.specs.Prelude.{◌≡◌, []};
 
-    ghost invariant = { λ f. KeepsCarriers f.ledger.rules f.ledger.history f.carriers.items × (f.ledger.held ≡ []) };
+    ghost invariant = { λ f. KeepsCarriers f.ledger.rules f.ledger.history f.carriers.items × (f.ledger.held ≡ []) × (f.claims.items ≡ []) };
 }
 
 impl<G: GraphStore> Fold<G> {
@@ -110,11 +112,16 @@ impl<G: GraphStore> Fold<G> {
         ensures rules { result.rules ≡ self.rules }
         ensures history { result.history ≡ self.history }
         ensures store { result.store ≡ self.store }
+        ensures held { result.held ≡ [] }
         ensures up { result.down ≡ false }
         ensures beside { result.beside ≡ None }
         ensures rig { result.rig ≡ rig }
     {
-        let Fold { ledger, carriers } = self;
+        let Fold {
+            ledger,
+            carriers,
+            claims,
+        } = self;
         Book {
             ledger,
             logs: Logs {
@@ -122,6 +129,7 @@ impl<G: GraphStore> Fold<G> {
                 vault,
                 carriers,
             },
+            claims,
             spare: 0,
             down: false,
             beside: None,

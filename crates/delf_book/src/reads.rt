@@ -40,6 +40,7 @@ impl<G: GraphStore, R: Rig> Book<G, R> {
             });
         }
         let len = self.ledger.len();
+        let _held = self.ledger.held();
         match read_object_at(&self.ledger, &self.logs, &mut self.rig, id, buf) {
             Ok(size) => Ok(size),
             Err(Failed) => {
@@ -72,6 +73,7 @@ impl<G: GraphStore, R: Rig> Book<G, R> {
             });
         }
         let len = self.ledger.len();
+        let _held = self.ledger.held();
         match read_edge_at(&self.ledger, &self.logs, &mut self.rig, key, buf) {
             Ok(size) => Ok(size),
             Err(Failed) => {

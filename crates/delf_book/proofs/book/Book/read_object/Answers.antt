@@ -1,4 +1,4 @@
-use Rattle.std.proofs.Common.{sym, subst}
+use Rattle.std.proofs.Common.{vec_capacity, sym, subst}
 use Rattle.delf_disk.specs.Plain.{Plain}
 use Rattle.delf_disk.specs.Areas.{Areas}
 use Rattle.delf_disk.proofs.Flags.{was_plain}
@@ -10,6 +10,7 @@ use Rattle.delf_book.proofs.Fallen.{fell_alone}
 use Rattle.delf_book.proofs.Held.{rest_as_read}
 use Rattle.delf_book.proofs.Sizes.{journal_in}
 use Rattle.delf_book.proofs.Callings.{settle_safe}
+use Rattle.delf_book.proofs.Claiming.{read_rests_on}
 use Rattle.delf_book.proofs.book.Book.read_object.Goals as goal
 
 pub read_object_at-requires-clause-stands : goal.read_object_at-requires-clause-stands
@@ -41,11 +42,19 @@ invariant_of-self g c = (
   c.self.invariant.1,
   λ down plain. absurd (cc (down, c.if-self.false)),
   c.self.invariant.3,
+  λ up.
+      let l = c.self.inside.ledger in
+      let kept = (c.self.invariant.0 c.if-self.false).areas in
+      let e = payloads_in (after l.rules l.history) (g.R.Disk.seen c.self.inside.rig) in
+      read_rests_on l.rules l.history l.held c.self.inside.spare c.self.inside.claims.items (vec_capacity c.self.inside.claims) (g.R.Disk.told c.self.inside.rig) (g.R.Disk.honest c.self.inside.rig)
+      (g.R.Disk.told c.read_object_at.new.disk) (g.R.Disk.honest c.read_object_at.new.disk) (g.R.Disk.seen c.self.inside.rig) (g.R.Disk.seen c.read_object_at.new.disk) (g.R.Disk.may_leave c.self.inside.rig) (g.R.Disk.may_leave c.read_object_at.new.disk)
+      c.len-len.ensures.legal c.held-held.ensures.are c.self.invariant.3 (was_plain c.read_object_at.ensures.kind) (λ here. g.met.R.Disk.reads_as_image c.self.inside.rig here)
+      (λ plain. g.met.R.Disk.reads_as_image c.read_object_at.new.disk plain) (λ here. (kept here).rests) (λ here. (c.read_object_at.ensures.crash here l.rules l.history e (kept here).rests).now) (c.self.invariant.4 c.if-self.false),
 )
 
 pub returns-in-Ok-clause-crash : goal.returns-in-Ok-clause-crash
 returns-in-Ok-clause-crash g c = λ plain up e rests.
-    let view : Booked g.row.G.Denot g.row.R.Denot = (record { rules = c.self.inside.ledger.rules; history = c.self.inside.ledger.history; store = c.self.inside.ledger.store; spare = c.self.inside.spare; down = c.self.inside.down; beside = c.self.inside.beside; rig = c.self.inside.rig }) in
+    let view : Booked g.row.G.Denot g.row.R.Denot = (record { rules = c.self.inside.ledger.rules; history = c.self.inside.ledger.history; store = c.self.inside.ledger.store; held = c.self.inside.claims.items; spare = c.self.inside.spare; down = c.self.inside.down; beside = c.self.inside.beside; rig = c.self.inside.rig }) in
     let here : Plain (g.R.Disk.told c.self.inside.rig) (g.R.Disk.honest c.self.inside.rig) =
     subst (λ (b : Booked g.row.G.Denot g.row.R.Denot). Plain (g.R.Disk.told b.rig) (g.R.Disk.honest b.rig)) (sym c.self.view_is) plain in
     settle_safe view c.args.self.now c.self.view_is c.read_object_at.new.disk g.R.Disk.moment g.R.Disk.may_leave g.R.Disk.left_since
@@ -53,7 +62,7 @@ returns-in-Ok-clause-crash g c = λ plain up e rests.
 
 pub returns-in-Err-clause-crash : goal.returns-in-Err-clause-crash
 returns-in-Err-clause-crash g c = λ plain up e rests.
-    let view : Booked g.row.G.Denot g.row.R.Denot = (record { rules = c.self.inside.ledger.rules; history = c.self.inside.ledger.history; store = c.self.inside.ledger.store; spare = c.self.inside.spare; down = c.self.inside.down; beside = c.self.inside.beside; rig = c.self.inside.rig }) in
+    let view : Booked g.row.G.Denot g.row.R.Denot = (record { rules = c.self.inside.ledger.rules; history = c.self.inside.ledger.history; store = c.self.inside.ledger.store; held = c.self.inside.claims.items; spare = c.self.inside.spare; down = c.self.inside.down; beside = c.self.inside.beside; rig = c.self.inside.rig }) in
     let here : Plain (g.R.Disk.told c.self.inside.rig) (g.R.Disk.honest c.self.inside.rig) =
     subst (λ (b : Booked g.row.G.Denot g.row.R.Denot). Plain (g.R.Disk.told b.rig) (g.R.Disk.honest b.rig)) (sym c.self.view_is) plain in
     settle_safe view c.args.self.now c.self.view_is c.read_object_at.new.disk g.R.Disk.moment g.R.Disk.may_leave g.R.Disk.left_since
@@ -71,4 +80,5 @@ invariant_of-self-in-Err g c = (
       fell_alone l.rules l.history e c.self.inside.beside (g.R.Disk.may_leave c.read_object_at.new.disk) c.len-len.ensures.legal (c.self.invariant.1 c.if-self.false)
       (c.read_object_at.ensures.crash here l.rules l.history e kept.rests).now,
   c.self.invariant.3,
+  λ up. absurd (cc up),
 )

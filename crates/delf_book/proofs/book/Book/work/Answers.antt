@@ -1,11 +1,11 @@
-use Rattle.std.proofs.Common.{◌≡◌, ℕ, List, [], max, min, sym, ap, ◌∙◌, subst}
+use Rattle.std.proofs.Common.{◌≡◌, ℕ, [], arith, refl, vec_capacity, max, min, sym, ap, ◌∙◌, subst}
 use Rattle.delf_book.proofs.Fallen.{fell_beside}
-use Rattle.delf_book.specs.Keeping.{payloads_in}
+use Rattle.delf_book.specs.Claims.{room_for}
+use Rattle.delf_book.specs.Keeping.{payloads_in, KeepsUp}
 use Rattle.delf_disk.proofs.Flags.{was_plain}
 use Rattle.delf_disk.specs.Moments.{Leaves}
 use Rattle.delf_disk.specs.Plain.{Plain}
 use Rattle.delf_model.specs.declared.entry.What.{What}
-use Rattle.delf_model.specs.Order.{is_held}
 use Rattle.delf_model.specs.Room.{greatest_moment, moment_of}
 use Rattle.delf_model.specs.Step.{after}
 use Rattle.delf_model.specs.Payloads.{Payloads}
@@ -13,6 +13,7 @@ use Rattle.store_laws.specs.Moves.{RestIn}
 use Rattle.delf_book.specs.Books.{Booked, state_in, IsCrashSafe, IsDurable}
 use Rattle.delf_book.specs.Steps.{PutsSealed, TellsDamage, step_entry}
 use Rattle.delf_book.specs.Writing.{Rests}
+use Rattle.delf_book.proofs.Claiming.{claims_same, claims_entered, read_same, read_entered, none_claimed}
 use Rattle.delf_book.proofs.Halts.{at_hurt}
 use Rattle.delf_book.proofs.Whole.{seals_stay, whole_undamaged}
 use Rattle.delf_book.proofs.Workings.{of_first, first_line}
@@ -23,7 +24,7 @@ use Rattle.delf_book.proofs.book.Book.work.Goals as goal
 
 pub returns-in-Ok-clause-crash : goal.returns-in-Ok-clause-crash
 returns-in-Ok-clause-crash g c = λ plain.
-    let view : Booked g.row.G.Denot g.row.R.Denot = (record { rules = c.self.inside.ledger.rules; history = c.self.inside.ledger.history; store = c.self.inside.ledger.store; spare = c.self.inside.spare; down = c.self.inside.down; beside = c.self.inside.beside; rig = c.self.inside.rig }) in
+    let view : Booked g.row.G.Denot g.row.R.Denot = (record { rules = c.self.inside.ledger.rules; history = c.self.inside.ledger.history; store = c.self.inside.ledger.store; held = c.self.inside.claims.items; spare = c.self.inside.spare; down = c.self.inside.down; beside = c.self.inside.beside; rig = c.self.inside.rig }) in
     let m_is : c.moment_at-moment.result ≡ moment_of (state_in view) c.args.now =
     c.moment_at-moment.ensures ∙ ap (λ (k : ℕ). max k (min c.args.now greatest_moment)) c.moment.ensures.value in
     let here : Plain (g.R.Disk.told c.self.inside.rig) (g.R.Disk.honest c.self.inside.rig) =
@@ -54,7 +55,7 @@ returns-in-Err-Damaged-clause-crash g c = λ plain.
 
 pub returns-in-Err-Failed-clause-crash : goal.returns-in-Err-Failed-clause-crash
 returns-in-Err-Failed-clause-crash g c = λ plain.
-    let view : Booked g.row.G.Denot g.row.R.Denot = (record { rules = c.self.inside.ledger.rules; history = c.self.inside.ledger.history; store = c.self.inside.ledger.store; spare = c.self.inside.spare; down = c.self.inside.down; beside = c.self.inside.beside; rig = c.self.inside.rig }) in
+    let view : Booked g.row.G.Denot g.row.R.Denot = (record { rules = c.self.inside.ledger.rules; history = c.self.inside.ledger.history; store = c.self.inside.ledger.store; held = c.self.inside.claims.items; spare = c.self.inside.spare; down = c.self.inside.down; beside = c.self.inside.beside; rig = c.self.inside.rig }) in
     let m_is : c.moment_at-moment.result ≡ moment_of (state_in view) c.args.now =
     c.moment_at-moment.ensures ∙ ap (λ (k : ℕ). max k (min c.args.now greatest_moment)) c.moment.ensures.value in
     let here : Plain (g.R.Disk.told c.self.inside.rig) (g.R.Disk.honest c.self.inside.rig) =
@@ -66,7 +67,7 @@ returns-in-Err-Failed-clause-crash g c = λ plain.
 
 pub returns-in-Ok-clause-seals : goal.returns-in-Ok-clause-seals
 returns-in-Ok-clause-seals g c = λ plain.
-    let view : Booked g.row.G.Denot g.row.R.Denot = (record { rules = c.self.inside.ledger.rules; history = c.self.inside.ledger.history; store = c.self.inside.ledger.store; spare = c.self.inside.spare; down = c.self.inside.down; beside = c.self.inside.beside; rig = c.self.inside.rig }) in
+    let view : Booked g.row.G.Denot g.row.R.Denot = (record { rules = c.self.inside.ledger.rules; history = c.self.inside.ledger.history; store = c.self.inside.ledger.store; held = c.self.inside.claims.items; spare = c.self.inside.spare; down = c.self.inside.down; beside = c.self.inside.beside; rig = c.self.inside.rig }) in
     let m_is : c.moment_at-moment.result ≡ moment_of (state_in view) c.args.now =
     c.moment_at-moment.ensures ∙ ap (λ (k : ℕ). max k (min c.args.now greatest_moment)) c.moment.ensures.value in
     let here : Plain (g.R.Disk.told c.self.inside.rig) (g.R.Disk.honest c.self.inside.rig) =
@@ -79,7 +80,7 @@ returns-in-Ok-clause-seals g c = λ plain.
 
 pub returns-in-Err-Failed-clause-seals : goal.returns-in-Err-Failed-clause-seals
 returns-in-Err-Failed-clause-seals g c = λ plain.
-    let view : Booked g.row.G.Denot g.row.R.Denot = (record { rules = c.self.inside.ledger.rules; history = c.self.inside.ledger.history; store = c.self.inside.ledger.store; spare = c.self.inside.spare; down = c.self.inside.down; beside = c.self.inside.beside; rig = c.self.inside.rig }) in
+    let view : Booked g.row.G.Denot g.row.R.Denot = (record { rules = c.self.inside.ledger.rules; history = c.self.inside.ledger.history; store = c.self.inside.ledger.store; held = c.self.inside.claims.items; spare = c.self.inside.spare; down = c.self.inside.down; beside = c.self.inside.beside; rig = c.self.inside.rig }) in
     let m_is : c.moment_at-moment.result ≡ moment_of (state_in view) c.args.now =
     c.moment_at-moment.ensures ∙ ap (λ (k : ℕ). max k (min c.args.now greatest_moment)) c.moment.ensures.value in
     let here : Plain (g.R.Disk.told c.self.inside.rig) (g.R.Disk.honest c.self.inside.rig) =
@@ -118,8 +119,54 @@ invariant_of-self-in-Err-Failed g c = (
       let e = payloads_in (after l.rules l.history) (g.R.Disk.seen c.self.inside.rig) in
       fell_beside l.rules now.rules l.history now.history e (step_entry c.moment_at-moment.result c.in-Some.what) [] c.of.result
       (g.R.Disk.may_leave c.step.new.disk) c.step.ensures.rules c.in-Err-Failed.ensures.err c.of.ensures.entry c.of.ensures.payload (c.step.ensures.crash here e kept.rests).now,
-  c.step.ensures.held ∙ c.self.invariant.3,
+  claims_same c.self.inside.ledger.rules c.step.new.ledger.rules c.self.inside.ledger.history c.step.new.ledger.history c.self.inside.ledger.held c.step.new.ledger.held c.self.inside.claims.items c.self.inside.claims.items
+      c.step.ensures.rules c.in-Err-Failed.ensures.err c.step.ensures.held refl c.self.invariant.3,
+  λ up. absurd (cc up),
 )
 
 pub step-requires-clause-free : goal.step-requires-clause-free
-step-requires-clause-free g c = ap (λ (held : List What). is_held held c.in-Some.what) c.self.invariant.3
+step-requires-clause-free g c =
+    let l = c.self.inside.ledger in
+    none_claimed l.rules l.history l.held c.self.inside.claims.items c.in-Some.what c.self.invariant.3 (ap (λ (b : Booked g.row.G.Denot g.row.R.Denot). b.held) c.self.view_is ∙ c.requires)
+
+pub invariant_of-self : goal.invariant_of-self
+invariant_of-self g c =
+    let l = c.self.inside.ledger in
+    let now = c.step.new.ledger in
+    let entry = step_entry c.moment_at-moment.result c.in-Some.what in
+    let up = c.self.invariant.0 c.if-self.false in
+    let kept = c.self.invariant.4 c.if-self.false in
+    let line = first_line (after l.rules l.history) c.moment_at-moment.result c.in-Some.what c.in-Some.ensures.legal c.in-Some.ensures.step in
+    let free = none_claimed l.rules l.history l.held c.self.inside.claims.items c.in-Some.what c.self.invariant.3 (ap (λ (b : Booked g.row.G.Denot g.row.R.Denot). b.held) c.self.view_is ∙ c.requires) in (
+      λ _. rw (← c.len-claims.ensures) c.in-Ok.ensures.up,
+      c.self.invariant.1,
+      λ down. absurd (cc (down, c.if-self.false)),
+      claims_entered l.rules now.rules l.history now.history entry l.held now.held c.self.inside.claims.items c.len-len.ensures.legal line free
+          c.held-held.ensures.are c.in-Ok.ensures.ok.rules c.in-Ok.ensures.ok.history c.step.ensures.held c.self.invariant.3,
+      λ _. read_entered l.rules now.rules l.history now.history entry [] l.held c.self.inside.spare c.in-Ok.left c.self.inside.claims.items (vec_capacity c.self.inside.claims)
+          (g.R.Disk.told c.self.inside.rig) (g.R.Disk.honest c.self.inside.rig) (g.R.Disk.told c.step.new.disk) (g.R.Disk.honest c.step.new.disk) (g.R.Disk.seen c.self.inside.rig)
+          (g.R.Disk.seen c.step.new.disk) (g.R.Disk.may_leave c.step.new.disk) c.len-len.ensures.legal line free c.held-held.ensures.are c.self.invariant.3
+          c.in-Ok.ensures.ok.rules c.in-Ok.ensures.ok.history (omega (arith, kept.room, c.in-Ok.ensures.less)) (was_plain c.step.ensures.kind) (λ plain. g.met.R.Disk.reads_as_image c.step.new.disk plain)
+          (λ here. c.in-Ok.ensures.durable here (payloads_in (after l.rules l.history) (g.R.Disk.seen c.self.inside.rig)) (up.areas here).rests) kept,
+    )
+
+pub invariant_of-self-in-Err-OutOfMemory : goal.invariant_of-self-in-Err-OutOfMemory
+invariant_of-self-in-Err-OutOfMemory g c =
+    let l = c.self.inside.ledger in
+    let now = c.step.new.ledger in
+    let kept = c.self.invariant.4 c.if-self.false in (
+      λ _. rw (← c.len-claims.ensures) c.in-Err-OutOfMemory.ensures.stays,
+      c.self.invariant.1,
+      λ down. absurd (cc (down, c.if-self.false)),
+      claims_same l.rules now.rules l.history now.history l.held now.held c.self.inside.claims.items c.self.inside.claims.items c.step.ensures.rules c.in-Err-OutOfMemory.ensures.err c.step.ensures.held refl c.self.invariant.3,
+      λ _. rw c.in-Err-OutOfMemory.ensures.unread
+          (read_same l.rules now.rules l.history now.history c.self.inside.spare c.self.inside.spare c.self.inside.claims.items c.self.inside.claims.items (vec_capacity c.self.inside.claims) (vec_capacity c.self.inside.claims)
+          (g.R.Disk.told c.self.inside.rig) (g.R.Disk.honest c.self.inside.rig) (g.R.Disk.seen c.self.inside.rig) c.step.ensures.rules c.in-Err-OutOfMemory.ensures.err refl kept.room kept),
+    )
+
+pub step-requires-clause-up : goal.step-requires-clause-up
+step-requires-clause-up g c =
+    let l = c.self.inside.ledger in
+    let logs = c.self.inside.logs in
+    subst (λ (n : ℕ). KeepsUp l.rules l.history (room_for c.self.inside.spare n) l.spare logs.journal logs.vault logs.carriers.items (vec_capacity logs.carriers) (g.R.Disk.told c.self.inside.rig)
+    (g.R.Disk.honest c.self.inside.rig) (g.R.Disk.seen c.self.inside.rig) (g.R.Disk.may_leave c.self.inside.rig)) (sym c.len-claims.ensures) (c.self.invariant.0 c.if-self.false)
