@@ -47,8 +47,8 @@ pub(crate) fn submit<R: Rig>(
     }
 }
 
-// The line of an accepted call.
-fn accepted_line(
+/// The line of an accepted call.
+pub(crate) fn accepted_line(
     alloc: Global,
     schema: &Schema,
     call: &Call,
@@ -92,8 +92,8 @@ fn started_name(receipt: &Receipt, name: u32) -> Option<u32>
     }
 }
 
-// The line of a refusal at this length of the history; want of memory has none.
-fn refused_line(
+/// The line of a refusal at this length of the history; want of memory has none.
+pub(crate) fn refused_line(
     alloc: Global,
     schema: &Schema,
     refusal: &Refusal,

@@ -12,7 +12,12 @@ use std::alloc::Global;
 
 /// Reads a document from `source`, and puts how many types and edge types it has and the printed route of each `by_any`
 /// type, or the line of its first fault.
-pub fn check_source<S: Source, K: Sink>(alloc: Global, source: &mut S, sink: &mut K) -> Status
+pub(crate) fn check_source<S: Source, K: Sink>(
+    alloc: Global,
+    source: &mut S,
+    sink: &mut K,
+    blocks: bool,
+) -> Status
     ensures cause { CheckCause (S.told source.old) (S.left source.old)
         (Rose (S.faults source.old) (S.faults source.new)) (Rose (K.faults sink.old) (K.faults sink.new)) result }
     ensures text { IsTrue (K.told sink.old) → CheckText (S.told source.old) (S.left source.old) (K.held sink.old)
@@ -26,19 +31,19 @@ pub fn check_source<S: Source, K: Sink>(alloc: Global, source: &mut S, sink: &mu
     ensures sink_faults { K.faults sink.old ≤ K.faults sink.new }
 {
     match read_at_most(alloc, source, READ_LIMIT) {
-        Ok(bytes) => check_bytes(alloc, bytes.as_slice(), sink),
+        Ok(bytes) => check_bytes(alloc, bytes.as_slice(), sink, blocks),
         Err(ReadError::Failed) => Status::ReadFault,
         Err(ReadError::OutOfMemory) => Status::OutOfMemory { done: 0 },
     }
 }
 
-fn check_bytes<K: Sink>(alloc: Global, bytes: &[u8], sink: &mut K) -> Status
+fn check_bytes<K: Sink>(alloc: Global, bytes: &[u8], sink: &mut K, blocks: bool) -> Status
     ensures cause { CheckedCause bytes.now (Rose (K.faults sink.old) (K.faults sink.new)) result }
     ensures text { IsTrue (K.told sink.old) → CheckedText bytes.now (K.held sink.old) (K.held sink.new) result }
     ensures same_sink { K.told sink.new ≡ K.told sink.old }
     ensures sink_faults { K.faults sink.old ≤ K.faults sink.new }
 {
-    let text = match check_document(alloc, bytes) {
+    let text = match check_document(alloc, bytes, blocks) {
         Ok(text) => text,
         Err(fault) => return put_fault(alloc, fault, sink),
     };

@@ -2,10 +2,12 @@
 #![tactic(auto)]
 
 mod answers;
+mod blocks;
 mod check;
 mod faults;
 mod graph;
 mod jobs;
+mod lanes;
 mod loading;
 mod names;
 mod readings;
@@ -16,5 +18,5 @@ mod status;
 mod store;
 
 pub use graph::{ProgramBook, ProgramGraph};
-pub use run::run_plain;
+pub use run::{run, run_plain};
 pub use status::Status;

@@ -18,10 +18,11 @@ ghost use Rattle.documents.specs.Loads.{OfLoad};
 ghost use Rattle.script_runner.specs.Standing.{Falls, Leads};
 ghost use Rattle.script_runner.specs.Worlds.{StandsOn, world_of};
 
+use crate::blocks::Blocks;
 use crate::graph::ProgramBook;
+use crate::lanes::serve;
 use crate::readings::{edges, job_lines, objects};
 use crate::run::{put_down, put_unopened};
-use crate::script::perform;
 use crate::status::Status;
 use crate::store::Store;
 use delf_book::BookFault;
@@ -34,8 +35,9 @@ use std::alloc::{AllocError, Global};
 
 /// Makes a load of `n` objects, 8 to 20,000, over the store on `rig`, at the moment that the clock answers, and puts its line
 /// to `sink`. The disk comes back.
-pub(crate) fn run_load<K: Sink, R: Rig, C: Clock>(
+pub(crate) fn run_load<K: Sink, R: Rig, C: Clock, B: Blocks<R>>(
     alloc: Global,
+    blocks: &B,
     n: u32,
     sink: &mut K,
     rig: R,
@@ -55,16 +57,17 @@ pub(crate) fn run_load<K: Sink, R: Rig, C: Clock>(
     ensures kind { SameKind R.Disk.told R.Disk.honest R.Disk.order R.Disk.orders rig result.1 }
     ensures asked { AsksOnce result.0 (C.times_asked clock.old) (C.times_asked clock.new) }
 {
-    let Ok(document) = load_document(alloc, n) else {
+    let Ok(document) = load_document(alloc, n, B::SERVED) else {
         return (Status::OutOfMemory { done: 0 }, rig);
     };
     let moment = clock.now();
-    load_into(alloc, n, moment, document, sink, rig)
+    load_into(alloc, blocks, n, moment, document, sink, rig)
 }
 
 // Opens the store, and makes the commands of a load.
-fn load_into<K: Sink, R: Rig>(
+fn load_into<K: Sink, R: Rig, B: Blocks<R>>(
     alloc: Global,
+    blocks: &B,
     n: u32,
     moment: Moment,
     document: Document,
@@ -89,17 +92,18 @@ fn load_into<K: Sink, R: Rig>(
         commands,
     } = document;
     match Store::open(alloc, rules, rig, moment.min(GREATEST_MOMENT)) {
-        Ok(store) => make_load(alloc, n, &schema, store, commands.as_slice(), sink),
+        Ok(store) => make_load(alloc, blocks, n, &schema, store, commands.as_slice(), sink),
         Err((fault, rig)) => (put_unopened(alloc, fault, 0, sink), rig),
     }
 }
 
 // Makes the commands of a load, and ends it.
-fn make_load<K: Sink, R: Rig>(
+fn make_load<K: Sink, R: Rig, B: Blocks<R>>(
     alloc: Global,
+    blocks: &B,
     n: u32,
     schema: &Schema,
-    mut store: Store<R>,
+    store: Store<R>,
     commands: &[Command],
     sink: &mut K,
 ) -> (Status, R)
@@ -118,22 +122,20 @@ fn make_load<K: Sink, R: Rig>(
     ensures rig_faults { R.Disk.faults store.book.rig ≤ R.Disk.faults result.1 }
     ensures kind { SameKind R.Disk.told R.Disk.honest R.Disk.order R.Disk.orders store.book.rig result.1 }
 {
-    match make_all(alloc, schema, &mut store, commands) {
-        Ok(()) => finish_load(alloc, n, store, sink),
-        Err(_) => {
-            let Store { book, clock: _ } = store;
-            (Status::OutOfMemory { done: 0 }, book.into_disk())
-        }
+    match make_all(alloc, blocks, schema, store, commands) {
+        Ok(store) => finish_load(alloc, n, store, sink),
+        Err(rig) => (Status::OutOfMemory { done: 0 }, rig),
     }
 }
 
-// Makes the commands one by one; their lines are not put. The only error is want of memory.
-fn make_all<R: Rig>(
+// Makes the commands one by one; their lines are not put. With `Err` memory was wanting, and the disk comes back.
+fn make_all<R: Rig, B: Blocks<R>>(
     alloc: Global,
+    blocks: &B,
     schema: &Schema,
-    store: &mut Store<R>,
+    mut store: Store<R>,
     commands: &[Command],
-) -> Result<(), AllocError>
+) -> Result<Store<R>, R>
     requires named { HasNames schema.now store.old.book.rules }
     requires numbered { All (IsNumberedCommand store.old.book.rules) commands.now }
     requires still { All IsStill commands.now }
@@ -147,9 +149,12 @@ fn make_all<R: Rig>(
     ensures cause { Falls R.Disk.faults store.old.book store.new.book }
 {
     for command in commands {
-        perform(alloc, schema, store, command)?;
+        match serve(alloc, blocks, schema, store, command) {
+            Ok((next, _)) => store = next,
+            Err(rig) => return Err(rig),
+        }
     }
-    Ok(())
+    Ok(store)
 }
 
 // Settles the store after the commands of a load, and puts its line.
