@@ -1,5 +1,6 @@
 //! Lanes over a book, from the first seat to the last step.
 ghost use Rattle.std.specs.Prelude.{◌≡◌, ◌<◌, ◌≤◌, ◌+◌, ℕ, [], false, Some, IfOk, IsTrue, length, map, slice_get, slice_index_or, vec_capacity};
+ghost use Rattle.delf_disk.specs.Plain.{SameKind};
 ghost use Rattle.delf_model.specs.declared.script.LaneCommand.{LaneCommand as Commanded};
 ghost use Rattle.seat_lock.specs.Views.{IsRoot};
 ghost use Rattle.seat_lock.specs.Locks.{view, IsOf, start_of};
@@ -242,6 +243,7 @@ pub fn run_lanes<W: Threads + Wait + Sync, G: GraphStore + Send, R: Rig + Send, 
     requires few { length lanes.now ≤ 16 }
     requires numbers { (k i : ℕ) (c : Commanded) → slice_get (commands_at lanes.now k) i ≡ Some c → HasCommand book.rules c }
     ensures kept { HasLanes (standing_of R.Disk.faults book (Some now)) (standing_of R.Disk.faults result.0 (Some now)) (length lanes.now) }
+    ensures kind { SameKind R.Disk.told R.Disk.honest R.Disk.order R.Disk.orders book.rig result.0.rig }
     ensures block { IfOk result.1 (λ outs. IsBlock (standing_of R.Disk.faults book (Some now)) (standing_of R.Disk.faults result.0 (Some now)) now lanes.now outs.items) }
 {
     let _len = book.len();

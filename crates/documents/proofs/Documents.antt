@@ -96,9 +96,9 @@ numbered_command schema rules Report has names few = tt
 numbered_command schema rules (Fail n) has names few = tt
 numbered_command schema rules (Crash pick) has names few = tt
 numbered_command schema rules (Par quiet workers turns lanes) has names few = record {
-  few = few.0;
-  workers = few.1;
-  lanes = λ k d below. numbered_lane schema rules (get_or lanes k d) has (names k d below);
+  few_lanes = few.0;
+  few_workers = few.1;
+  each = λ k d below. numbered_lane schema rules (get_or lanes k d) has (names k d below);
 }
 
 pub numbered_commands : (schema : Schema) (rules : RuleSet) (commands : List Command) → HasNames schema rules → All (CommandNames schema) commands →

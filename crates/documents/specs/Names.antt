@@ -49,9 +49,9 @@ pub record IsNumberedLane (rules : RuleSet) (lane : Lane) : Type 0 where
 
 -- at most 16 lanes and 16 workers
 pub record IsNumberedBlock (rules : RuleSet) (workers : ℕ) (lanes : List Lane) : Type 0 where
-  pub few : length lanes ≤ 16
-  pub workers : workers ≤ 16
-  pub lanes : All (IsNumberedLane rules) lanes
+  pub few_lanes : length lanes ≤ 16
+  pub few_workers : workers ≤ 16
+  pub each : All (IsNumberedLane rules) lanes
 
 abbrev pub IsNumberedCommand : RuleSet → Command → Type 0
 IsNumberedCommand rules (Submit asked) = IsNumberedCall rules asked

@@ -1,5 +1,5 @@
 -- The commands of a load, one by one, and how it ends.
-use Rattle.std.proofs.Common.{◌≡◌, ◌⊎◌, ℕ, ◌+◌, ◌<◌, ◌≤◌, false, List, [], ◌++◌, length, get_or, take, sym, ap, subst, ◌∙◌, inl, inr, arith}
+use Rattle.std.proofs.Common.{◌≡◌, ◌⊎◌, ℕ, ◌+◌, ◌<◌, ◌≤◌, Bool, false, List, [], ◌++◌, length, get_or, take, sym, ap, subst, ◌∙◌, inl, inr, arith}
 use Rattle.delf_disk.specs.declared.area.Area.{Area}
 use Rattle.delf_disk.specs.declared.area.Order.{Order}
 use Rattle.delf_disk.specs.Areas.{Areas}
@@ -220,16 +220,16 @@ load_unopened it start before now write_rose never (BadStore area at) less count
 
 -- the document that a load makes
 
-pub load_of_text : (n : ℕ) (runs : Document → Status → Type 0) (before after : List ℕ) (status : Status) (document : Document) → IsLoad n document → runs document status →
-    LoadedText n runs before after status
-load_of_text n runs before after Done document load holds = record { document = document; load = load; holds = holds }
-load_of_text n runs before after Usage document load holds = record { document = document; load = load; holds = holds }
-load_of_text n runs before after (BadDocument line) document load holds = record { document = document; load = load; holds = holds }
-load_of_text n runs before after ReadFault document load holds = record { document = document; load = load; holds = holds }
-load_of_text n runs before after (WriteFault done) document load holds = record { document = document; load = load; holds = holds }
-load_of_text n runs before after (OutOfMemory done) document load holds = inr (record { document = document; load = load; holds = holds })
-load_of_text n runs before after (Down len) document load holds = record { document = document; load = load; holds = holds }
-load_of_text n runs before after (BadStore area at) document load holds = record { document = document; load = load; holds = holds }
+pub load_of_text : (blocks : Bool) (n : ℕ) (runs : Document → Status → Type 0) (before after : List ℕ) (status : Status) (document : Document) → IsLoad blocks n document → runs document status →
+    LoadedText blocks n runs before after status
+load_of_text blocks n runs before after Done document load holds = record { document = document; load = load; holds = holds }
+load_of_text blocks n runs before after Usage document load holds = record { document = document; load = load; holds = holds }
+load_of_text blocks n runs before after (BadDocument line) document load holds = record { document = document; load = load; holds = holds }
+load_of_text blocks n runs before after ReadFault document load holds = record { document = document; load = load; holds = holds }
+load_of_text blocks n runs before after (WriteFault done) document load holds = record { document = document; load = load; holds = holds }
+load_of_text blocks n runs before after (OutOfMemory done) document load holds = inr (record { document = document; load = load; holds = holds })
+load_of_text blocks n runs before after (Down len) document load holds = record { document = document; load = load; holds = holds }
+load_of_text blocks n runs before after (BadStore area at) document load holds = record { document = document; load = load; holds = holds }
 
 -- the clock was asked once
 pub asked_once : (status : Status) (before now : ℕ) (write_rose rig_rose : Type 0) (bad : Area → ℕ → Type 0) → now ≡ next_count before → LoadCause write_rose rig_rose bad status →

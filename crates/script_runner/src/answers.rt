@@ -4,10 +4,9 @@ ghost use Rattle.delf_disk.specs.Plain.{Plain, SameKind};
 ghost use Rattle.delf_model.specs.declared.script.Command.TheVariants.{Submit};
 ghost use Rattle.delf_model.specs.Payloads.{Payloads};
 ghost use Rattle.job_report.specs.Texts.{refusal_text};
-ghost use Rattle.script_runner.specs.Lines.{receipt_text};
+ghost use Rattle.script_runner.specs.Lines.{receipt_text, refusal_name};
 ghost use Rattle.documents.specs.Names.{HasNames, IsNumberedCall};
 ghost use Rattle.script_runner.specs.Names.{IsNamed, IsNumberedRefusal};
-ghost use Rattle.script_runner.specs.Serial.{refusal_name};
 ghost use Rattle.script_runner.specs.Standing.{Falls, Carries, Halted};
 
 use crate::graph::ProgramBook;

@@ -18,9 +18,9 @@ pub(crate) fn check_source<S: Source, K: Sink>(
     sink: &mut K,
     blocks: bool,
 ) -> Status
-    ensures cause { CheckCause (S.told source.old) (S.left source.old)
+    ensures cause { CheckCause blocks (S.told source.old) (S.left source.old)
         (Rose (S.faults source.old) (S.faults source.new)) (Rose (K.faults sink.old) (K.faults sink.new)) result }
-    ensures text { IsTrue (K.told sink.old) → CheckText (S.told source.old) (S.left source.old) (K.held sink.old)
+    ensures text { IsTrue (K.told sink.old) → CheckText blocks (S.told source.old) (S.left source.old) (K.held sink.old)
         (K.held sink.new) result }
     ensures read { IsTrue (S.told source.old) → (read : List ℕ) × (length read ≤ 16777217)
         × (S.left source.old ≡ read ++ S.left source.new) }
@@ -38,8 +38,8 @@ pub(crate) fn check_source<S: Source, K: Sink>(
 }
 
 fn check_bytes<K: Sink>(alloc: Global, bytes: &[u8], sink: &mut K, blocks: bool) -> Status
-    ensures cause { CheckedCause bytes.now (Rose (K.faults sink.old) (K.faults sink.new)) result }
-    ensures text { IsTrue (K.told sink.old) → CheckedText bytes.now (K.held sink.old) (K.held sink.new) result }
+    ensures cause { CheckedCause blocks bytes.now (Rose (K.faults sink.old) (K.faults sink.new)) result }
+    ensures text { IsTrue (K.told sink.old) → CheckedText blocks bytes.now (K.held sink.old) (K.held sink.new) result }
     ensures same_sink { K.told sink.new ≡ K.told sink.old }
     ensures sink_faults { K.faults sink.old ≤ K.faults sink.new }
 {

@@ -1,4 +1,17 @@
 //! A block of lanes and its lines.
+ghost use Rattle.std.specs.Prelude.{◌≡◌, ◌+◌, ◌≤◌, true, false, IfOk, IsOkAnd, OnOk, OnErr, length, if◌then◌else◌};
+ghost use Rattle.std.specs.List.{filter};
+ghost use Rattle.std.specs.Result.{ForOk};
+ghost use Rattle.delf_disk.specs.Plain.{Plain, SameTelling, SameKind};
+ghost use Rattle.delf_model.specs.declared.script.Command.TheVariants.{Par};
+ghost use Rattle.delf_service.specs.Lanes.{IsStarved};
+ghost use Rattle.delf_model.specs.Payloads.{Payloads};
+ghost use Rattle.documents.specs.Names.{HasNames, HasNoLanes, IsNumberedBlock, IsNumberedCommand};
+ghost use Rattle.script_runner.specs.Blocks.{AreFed, HasOnlyFed, is_accepted, is_refused, replies_of, answer_line as answer_line_of, read_line, reply_line as reply_line_of, lane_lines as lane_lines_of, lanes_lines as lanes_lines_of, block_lines as block_lines_of};
+ghost use Rattle.script_runner.specs.Names.{AreNumberedOuts, AreNumberedReplies, IsNumberedReply, IsNumberedAnswer, IsNumberedAsked};
+ghost use Rattle.script_runner.specs.Orders.{Gives};
+ghost use Rattle.script_runner.specs.Standing.{Falls, Carries, Halted, IsOpen};
+
 use crate::answers::{accepted_line, refused_line};
 use crate::blocks::Blocks;
 use crate::script::{down_refused, perform};
@@ -12,23 +25,27 @@ use documents::joined;
 use job_report::{absent_line, down_line, lane_line, par_line};
 use std::alloc::{AllocError, Global};
 
-// A block: how its lines are put, its workers, the steps of each at most, and its lanes.
-#[derive(Clone, Copy)]
-struct Block<'a> {
-    quiet: bool,
-    workers: u8,
-    turns: u32,
-    lanes: &'a [Lane],
-}
-
-/// Makes a command that keeps the store open, and gives its lines. With `Err` memory was wanting, and the disk comes back.
+/// Makes a command that keeps the store open, and gives its lines. The only error is want of memory.
 pub(crate) fn serve<R: Rig, B: Blocks<R>>(
     alloc: Global,
     blocks: &B,
     schema: &Schema,
     mut store: Store<R>,
     command: &Command,
-) -> Result<(Store<R>, Bytes), R> {
+) -> (Store<R>, Result<Bytes, AllocError>)
+    requires named { HasNames schema.now store.book.rules }
+    requires numbered { IsNumberedCommand store.book.rules command.now }
+    requires open { IsOpen command.now }
+    requires lanes { B.SERVED ≡ false → HasNoLanes command.now }
+    ensures rules { result.0.book.rules ≡ store.book.rules }
+    ensures serves { IfOk result.1 (λ text. Plain (R.Disk.told store.book.rig) (R.Disk.honest store.book.rig) → (e : Payloads)
+        → Carries R.Disk.may_leave R.Disk.faults schema.now command.now store.book result.0.book store.clock result.0.clock e text) }
+    ensures halts { OnErr result.1 (Plain (R.Disk.told store.book.rig) (R.Disk.honest store.book.rig) → (e : Payloads)
+        → Halted R.Disk.may_leave command.now store.book store.clock e result.0.book.rig) }
+    ensures telling { SameTelling R.Disk.told R.Disk.honest store.book.rig result.0.book.rig }
+    ensures orders { Gives command.now (R.Disk.order store.book.rig) (R.Disk.orders store.book.rig) (R.Disk.order result.0.book.rig) (R.Disk.orders result.0.book.rig) }
+    ensures cause { Falls R.Disk.faults store.book result.0.book }
+{
     if let Command::Par {
         quiet,
         workers,
@@ -36,57 +53,79 @@ pub(crate) fn serve<R: Rig, B: Blocks<R>>(
         lanes,
     } = command
     {
-        let block = Block {
-            quiet: *quiet,
-            workers: *workers,
-            turns: *turns,
-            lanes: lanes.as_slice(),
-        };
-        return run_block(alloc, blocks, schema, store, &block);
+        return run_block(
+            alloc,
+            blocks,
+            schema,
+            store,
+            *quiet,
+            *workers,
+            *turns,
+            lanes.as_slice(),
+        );
     }
-    match perform(alloc, schema, &mut store, command) {
-        Ok(lines) => Ok((store, lines)),
-        Err(AllocError) => Err(into_disk(store)),
-    }
+    let lines = perform(alloc, schema, &mut store, command);
+    (store, lines)
 }
 
-/// The disk of a store.
-pub(crate) fn into_disk<R: Rig>(store: Store<R>) -> R {
-    let Store { book, clock: _ } = store;
-    book.into_disk()
-}
-
-// Runs a block, and gives its lines. With `Err` memory was wanting, and the disk comes back.
+// Runs the lanes of a block, and gives its lines. The only error is want of memory.
 fn run_block<R: Rig, B: Blocks<R>>(
     alloc: Global,
     blocks: &B,
     schema: &Schema,
     store: Store<R>,
-    block: &Block,
-) -> Result<(Store<R>, Bytes), R> {
+    quiet: bool,
+    workers: u8,
+    turns: u32,
+    lanes: &[Lane],
+) -> (Store<R>, Result<Bytes, AllocError>)
+    requires named { HasNames schema.now store.book.rules }
+    requires numbered { IsNumberedBlock store.book.rules workers lanes.now }
+    requires served { B.SERVED ≡ true }
+    ensures rules { result.0.book.rules ≡ store.book.rules }
+    ensures serves { IfOk result.1 (λ text. Plain (R.Disk.told store.book.rig) (R.Disk.honest store.book.rig) → (e : Payloads)
+        → Carries R.Disk.may_leave R.Disk.faults schema.now (Par quiet workers turns lanes.now) store.book result.0.book store.clock result.0.clock e text) }
+    ensures halts { OnErr result.1 (Plain (R.Disk.told store.book.rig) (R.Disk.honest store.book.rig) → (e : Payloads)
+        → Halted R.Disk.may_leave (Par quiet workers turns lanes.now) store.book store.clock e result.0.book.rig) }
+    ensures kind { SameKind R.Disk.told R.Disk.honest R.Disk.order R.Disk.orders store.book.rig result.0.book.rig }
+    ensures cause { Falls R.Disk.faults store.book result.0.book }
+{
     let Store { book, clock } = store;
     let len = book.len();
     if book.is_down() {
-        return match down_refused(alloc, len) {
-            Ok(line) => Ok((Store { book, clock }, line)),
-            Err(AllocError) => Err(book.into_disk()),
-        };
+        let line = down_refused(alloc, len);
+        return (Store { book, clock }, line);
     }
-    let (book, outs) = blocks.run(alloc, book, clock, block.lanes, block.workers, block.turns);
-    let Ok(outs) = outs else {
-        return Err(book.into_disk());
-    };
-    match block_lines(
+    let (book, outs) = blocks.run(alloc, book, clock, lanes, workers, turns);
+    book.standing();
+    let lines = lines_of(
         alloc,
         schema,
-        block.quiet,
-        block.lanes,
-        outs.as_slice(),
+        quiet,
+        lanes,
+        outs,
         book.len(),
         book.is_down(),
-    ) {
-        Ok(lines) => Ok((Store { book, clock }, lines)),
-        Err(AllocError) => Err(book.into_disk()),
+    );
+    (Store { book, clock }, lines)
+}
+
+// The lines of a block whose lanes were run.
+fn lines_of(
+    alloc: Global,
+    schema: &Schema,
+    quiet: bool,
+    lanes: &[Lane],
+    outs: Result<Vec<LaneOut>, AllocError>,
+    len: u32,
+    down: bool,
+) -> Result<Bytes, AllocError>
+    requires { ForOk outs (λ outs. AreNumberedOuts schema.now lanes.now outs.items × (length outs.items ≤ 16)) }
+    ensures { IfOk result (λ text. IsOkAnd outs (λ outs. AreFed outs.items × (text ≡ block_lines_of schema.now quiet lanes.now outs.items len down))) }
+{
+    match outs {
+        Ok(outs) => block_lines(alloc, schema, quiet, lanes, outs.as_slice(), len, down),
+        Err(AllocError) => Err(AllocError),
     }
 }
 
@@ -99,7 +138,12 @@ fn block_lines(
     outs: &[LaneOut],
     len: u32,
     down: bool,
-) -> Result<Bytes, AllocError> {
+) -> Result<Bytes, AllocError>
+    requires numbered { AreNumberedOuts schema.now lanes.now outs.now }
+    requires few { length outs.now ≤ 16 }
+    ensures fed { OnOk result (AreFed outs.now) }
+    ensures text { IfOk result (λ text. text ≡ block_lines_of schema.now quiet lanes.now outs.now len down) }
+{
     let (accepted, refused) = counts(outs)?;
     let last = par_line(alloc, accepted, refused, len, down)?;
     if quiet {
@@ -109,31 +153,47 @@ fn block_lines(
     joined(alloc, lines.as_slice(), last.as_slice())
 }
 
-// How many calls of the lanes were accepted, and how many were not. The only error is a call that wanted memory.
-fn counts(outs: &[LaneOut]) -> Result<(u32, u32), AllocError> {
-    let mut accepted = 0;
-    let mut refused = 0;
+// How many calls of the lanes were accepted, and how many were not. The only error is want of memory: of a call, or for
+// so many calls that no document has them.
+fn counts(outs: &[LaneOut]) -> Result<(u32, u32), AllocError>
+    ensures fed { OnOk result (AreFed outs.now) }
+    ensures accepted { IfOk result (λ n. n.0 ≡ length (filter is_accepted (replies_of outs.now))) }
+    ensures refused { IfOk result (λ n. n.1 ≡ length (filter is_refused (replies_of outs.now))) }
+{
+    let mut so_far = (0, 0);
     for out in outs {
-        let (more, others) = lane_counts(out.replies.as_slice())?;
-        accepted += more;
-        refused += others;
+        so_far = counts_with(so_far, out.replies.as_slice())?;
+    }
+    Ok(so_far)
+}
+
+// The same with the calls of one lane more.
+fn counts_with(before: (u32, u32), replies: &[LaneReply]) -> Result<(u32, u32), AllocError>
+    ensures fed { OnOk result (HasOnlyFed replies.now) }
+    ensures accepted { IfOk result (λ n. n.0 ≡ before.0 + length (filter is_accepted replies.now)) }
+    ensures refused { IfOk result (λ n. n.1 ≡ before.1 + length (filter is_refused replies.now)) }
+{
+    let (mut accepted, mut refused) = before;
+    for reply in replies {
+        (accepted, refused) = counted(accepted, refused, reply)?;
     }
     Ok((accepted, refused))
 }
 
-fn lane_counts(replies: &[LaneReply]) -> Result<(u32, u32), AllocError> {
-    let mut accepted = 0;
-    let mut refused = 0;
-    for reply in replies {
-        if let LaneReply::Submitted(answer) = reply {
-            match answer.reply {
-                Ok(_) => accepted += 1,
-                Err(Refusal::OutOfMemory) => return Err(AllocError),
-                Err(_) => refused += 1,
-            }
-        }
+// The same with one reply more.
+fn counted(accepted: u32, refused: u32, reply: &LaneReply) -> Result<(u32, u32), AllocError>
+    ensures fed { OnOk result (IsStarved reply.now → ⊥) }
+    ensures accepted { IfOk result (λ n. n.0 ≡ accepted + (if is_accepted reply.now then 1 else 0)) }
+    ensures refused { IfOk result (λ n. n.1 ≡ refused + (if is_refused reply.now then 1 else 0)) }
+{
+    let LaneReply::Submitted(answer) = reply else {
+        return Ok((accepted, refused));
+    };
+    match answer.reply {
+        Ok(_) => Ok((accepted.checked_add(1).ok_or(AllocError)?, refused)),
+        Err(Refusal::OutOfMemory) => Err(AllocError),
+        Err(_) => Ok((accepted, refused.checked_add(1).ok_or(AllocError)?)),
     }
-    Ok((accepted, refused))
 }
 
 // The lines of the lanes, one lane after the other.
@@ -142,9 +202,13 @@ fn lanes_lines(
     schema: &Schema,
     lanes: &[Lane],
     outs: &[LaneOut],
-) -> Result<Bytes, AllocError> {
+) -> Result<Bytes, AllocError>
+    requires numbered { AreNumberedOuts schema.now lanes.now outs.now }
+    requires few { length outs.now ≤ 16 }
+    ensures { IfOk result (λ text. text ≡ lanes_lines_of schema.now 0 lanes.now outs.now) }
+{
     let mut text = Vec::new(alloc);
-    for place in 0..lanes.len() {
+    for place in 0..outs.len() {
         let lines = lane_lines(
             alloc,
             schema,
@@ -164,9 +228,12 @@ fn lane_lines(
     lane: u8,
     commands: &[LaneCommand],
     replies: &[LaneReply],
-) -> Result<Bytes, AllocError> {
+) -> Result<Bytes, AllocError>
+    requires { AreNumberedReplies schema.now commands.now replies.now }
+    ensures { IfOk result (λ text. text ≡ lane_lines_of schema.now lane commands.now replies.now) }
+{
     let mut text = Vec::new(alloc);
-    for place in 0..commands.len() {
+    for place in 0..replies.len() {
         let line = reply_line(alloc, schema, &commands[place], &replies[place])?;
         let line = lane_line(alloc, lane, line.as_slice())?;
         text.extend_from_slice(line.as_slice())?;
@@ -180,7 +247,10 @@ fn reply_line(
     schema: &Schema,
     command: &LaneCommand,
     reply: &LaneReply,
-) -> Result<Bytes, AllocError> {
+) -> Result<Bytes, AllocError>
+    requires { IsNumberedReply schema.now command.now reply.now }
+    ensures { IfOk result (λ text. text ≡ reply_line_of schema.now command.now reply.now) }
+{
     match (command, reply) {
         (LaneCommand::Submit(call), LaneReply::Submitted(answer)) => {
             answer_line(alloc, schema, call, answer)
@@ -198,7 +268,10 @@ fn answer_line(
     schema: &Schema,
     call: &Call,
     answer: &Answer,
-) -> Result<Bytes, AllocError> {
+) -> Result<Bytes, AllocError>
+    requires { IsNumberedAnswer schema.now call.now answer.now.reply }
+    ensures { IfOk result (λ text. text ≡ answer_line_of schema.now call.now answer.now.at answer.now.reply) }
+{
     match &answer.reply {
         Ok(receipt) => accepted_line(alloc, schema, call, receipt),
         Err(refusal) => refused_line(alloc, schema, refusal, answer.at),
@@ -212,7 +285,10 @@ fn asked_line(
     id: ObjectId,
     asked: &Asked,
     payload: &[u8],
-) -> Result<Bytes, AllocError> {
+) -> Result<Bytes, AllocError>
+    requires { IsNumberedAsked schema.now asked.now }
+    ensures { IfOk result (λ text. text ≡ read_line schema.now id asked.now payload.now asked.now.fault) }
+{
     match asked.fault {
         Some(BookFault::Down { len }) => down_refused(alloc, len),
         Some(BookFault::DiskFault { len }) => down_line(alloc, len),

@@ -12,7 +12,7 @@ ghost use Rattle.script_runner.specs.Endings.{EndCause};
 ghost use Rattle.script_runner.specs.LoadEnds.{LoadText, LoadScriptText, LoadEndText, PutsLine, StarvesAmong};
 ghost use Rattle.documents.specs.Loads.{IsStill};
 ghost use Rattle.script_runner.specs.LoadEnds.{loaded_line};
-ghost use Rattle.documents.specs.Names.{HasNames, IsNumberedCommand};
+ghost use Rattle.documents.specs.Names.{HasNames, HasNoLanes, IsNumberedCommand};
 ghost use Rattle.script_runner.specs.Outcomes.{IsBad, LoadedText, LoadCause, AsksOnce};
 ghost use Rattle.documents.specs.Loads.{OfLoad};
 ghost use Rattle.script_runner.specs.Standing.{Falls, Leads};
@@ -46,8 +46,8 @@ pub(crate) fn run_load<K: Sink, R: Rig, C: Clock, B: Blocks<R>>(
     requires above { 8 ≤ n }
     requires below { n ≤ 20000 }
     ensures cause { LoadCause (Rose (K.faults sink.old) (K.faults sink.new)) (DiskRose (R.Disk.faults rig) (R.Disk.faults result.1))
-        (λ area at. OfLoad n (λ document. Plain (R.Disk.told rig) (R.Disk.honest rig) → IsBad document.rules (R.Disk.seen rig) area at)) result.0 }
-    ensures text { IsTrue (K.told sink.old) → LoadedText n (λ document status. Plain (R.Disk.told rig) (R.Disk.honest rig)
+        (λ area at. OfLoad B.SERVED n (λ document. Plain (R.Disk.told rig) (R.Disk.honest rig) → IsBad document.rules (R.Disk.seen rig) area at)) result.0 }
+    ensures text { IsTrue (K.told sink.old) → LoadedText B.SERVED n (λ document status. Plain (R.Disk.told rig) (R.Disk.honest rig)
         → LoadText n document (C.last_answer clock.new) (R.Disk.seen rig) (R.Disk.may_leave rig)
         (R.Disk.faults rig) (R.Disk.faults result.1) (R.Disk.may_leave result.1) (K.held sink.old) (K.held sink.new) status)
         (K.held sink.old) (K.held sink.new) result.0 }
@@ -77,6 +77,7 @@ fn load_into<K: Sink, R: Rig, B: Blocks<R>>(
     requires named { HasNames document.schema document.rules }
     requires numbered { All (IsNumberedCommand document.rules) document.commands }
     requires still { All IsStill document.commands }
+    requires lanes { B.SERVED ≡ false → All HasNoLanes document.commands }
     ensures cause { LoadCause (Rose (K.faults sink.old) (K.faults sink.new)) (DiskRose (R.Disk.faults rig) (R.Disk.faults result.1))
         (λ area at. Plain (R.Disk.told rig) (R.Disk.honest rig) → IsBad document.rules (R.Disk.seen rig) area at) result.0 }
     ensures text { IsTrue (K.told sink.old) → Plain (R.Disk.told rig) (R.Disk.honest rig) → LoadText n document moment (R.Disk.seen rig) (R.Disk.may_leave rig)
@@ -111,6 +112,7 @@ fn make_load<K: Sink, R: Rig, B: Blocks<R>>(
     requires named { HasNames schema.now store.book.rules }
     requires numbered { All (IsNumberedCommand store.book.rules) commands.now }
     requires still { All IsStill commands.now }
+    requires lanes { B.SERVED ≡ false → All HasNoLanes commands.now }
     ensures cause { LoadCause (Rose (K.faults sink.old) (K.faults sink.new)) (DiskRose (R.Disk.faults store.book.rig) (R.Disk.faults result.1))
         (λ area at. ⊥) result.0 }
     ensures text { IsTrue (K.told sink.old) → Plain (R.Disk.told store.book.rig) (R.Disk.honest store.book.rig) → (e : Payloads)
@@ -122,39 +124,45 @@ fn make_load<K: Sink, R: Rig, B: Blocks<R>>(
     ensures rig_faults { R.Disk.faults store.book.rig ≤ R.Disk.faults result.1 }
     ensures kind { SameKind R.Disk.told R.Disk.honest R.Disk.order R.Disk.orders store.book.rig result.1 }
 {
-    match make_all(alloc, blocks, schema, store, commands) {
-        Ok(store) => finish_load(alloc, n, store, sink),
-        Err(rig) => (Status::OutOfMemory { done: 0 }, rig),
+    let (store, made) = make_all(alloc, blocks, schema, store, commands);
+    match made {
+        Ok(()) => finish_load(alloc, n, store, sink),
+        Err(AllocError) => {
+            let Store { book, clock: _ } = store;
+            (Status::OutOfMemory { done: 0 }, book.into_disk())
+        }
     }
 }
 
-// Makes the commands one by one; their lines are not put. With `Err` memory was wanting, and the disk comes back.
+// Makes the commands one by one; their lines are not put. The only error is want of memory.
 fn make_all<R: Rig, B: Blocks<R>>(
     alloc: Global,
     blocks: &B,
     schema: &Schema,
     mut store: Store<R>,
     commands: &[Command],
-) -> Result<Store<R>, R>
-    requires named { HasNames schema.now store.old.book.rules }
-    requires numbered { All (IsNumberedCommand store.old.book.rules) commands.now }
+) -> (Store<R>, Result<(), AllocError>)
+    requires named { HasNames schema.now store.book.rules }
+    requires numbered { All (IsNumberedCommand store.book.rules) commands.now }
     requires still { All IsStill commands.now }
-    ensures made { OnOk result (Plain (R.Disk.told store.old.book.rig) (R.Disk.honest store.old.book.rig) → (e : Payloads)
-        → StandsOn (world_of store.old.book store.old.clock e) (R.Disk.may_leave store.old.book.rig)
-        → Leads R.Disk.may_leave R.Disk.faults schema.now (world_of store.old.book store.old.clock e) commands.now (R.Disk.faults store.old.book.rig) store.new.book store.new.clock) }
-    ensures starves { OnErr result (Plain (R.Disk.told store.old.book.rig) (R.Disk.honest store.old.book.rig) → (e : Payloads)
-        → StandsOn (world_of store.old.book store.old.clock e) (R.Disk.may_leave store.old.book.rig)
-        → StarvesAmong schema.now (world_of store.old.book store.old.clock e) commands.now (R.Disk.faults store.old.book.rig) (R.Disk.may_leave store.new.book.rig)) }
-    ensures kind { SameKind R.Disk.told R.Disk.honest R.Disk.order R.Disk.orders store.old.book.rig store.new.book.rig }
-    ensures cause { Falls R.Disk.faults store.old.book store.new.book }
+    requires lanes { B.SERVED ≡ false → All HasNoLanes commands.now }
+    ensures made { OnOk result.1 (Plain (R.Disk.told store.book.rig) (R.Disk.honest store.book.rig) → (e : Payloads)
+        → StandsOn (world_of store.book store.clock e) (R.Disk.may_leave store.book.rig)
+        → Leads R.Disk.may_leave R.Disk.faults schema.now (world_of store.book store.clock e) commands.now (R.Disk.faults store.book.rig) result.0.book result.0.clock) }
+    ensures starves { OnErr result.1 (Plain (R.Disk.told store.book.rig) (R.Disk.honest store.book.rig) → (e : Payloads)
+        → StandsOn (world_of store.book store.clock e) (R.Disk.may_leave store.book.rig)
+        → StarvesAmong schema.now (world_of store.book store.clock e) commands.now (R.Disk.faults store.book.rig) (R.Disk.may_leave result.0.book.rig)) }
+    ensures kind { SameKind R.Disk.told R.Disk.honest R.Disk.order R.Disk.orders store.book.rig result.0.book.rig }
+    ensures cause { Falls R.Disk.faults store.book result.0.book }
 {
     for command in commands {
-        match serve(alloc, blocks, schema, store, command) {
-            Ok((next, _)) => store = next,
-            Err(rig) => return Err(rig),
+        let (next, lines) = serve(alloc, blocks, schema, store, command);
+        store = next;
+        if lines.is_err() {
+            return (store, Err(AllocError));
         }
     }
-    Ok(store)
+    (store, Ok(()))
 }
 
 // Settles the store after the commands of a load, and puts its line.

@@ -58,13 +58,13 @@ pub fn run_plain<S: Source, K: Sink, R: Rig, C: Clock>(
     clock: &mut C,
 ) -> (Status, R)
     // Why it ended so, and what it put and left on the disk.
-    ensures cause { RunCause (request_of (map string_bytes words.now)) (S.told source.old) (S.left source.old)
+    ensures cause { RunCause false (request_of (map string_bytes words.now)) (S.told source.old) (S.left source.old)
         (Rose (S.faults source.old) (S.faults source.new)) (Rose (K.faults sink.old) (K.faults sink.new)) (DiskRose (R.Disk.faults rig) (R.Disk.faults result.1))
         (λ rules area at. Plain (R.Disk.told rig) (R.Disk.honest rig) → IsBad rules (R.Disk.seen rig) area at) result.0 }
     ensures complete { IsQuiet (Rose (S.faults source.old) (S.faults source.new)) (Rose (K.faults sink.old) (K.faults sink.new)) (DiskRose (R.Disk.faults rig) (R.Disk.faults result.1))
-        → EndsWell (request_of (map string_bytes words.now)) (S.told source.old) (S.left source.old)
+        → EndsWell false (request_of (map string_bytes words.now)) (S.told source.old) (S.left source.old)
         (λ rules. Plain (R.Disk.told rig) (R.Disk.honest rig) × IsStore rules (R.Disk.seen rig)) result.0 }
-    ensures text { IsTrue (K.told sink.old) → RunText (request_of (map string_bytes words.now)) (C.last_answer clock.new)
+    ensures text { IsTrue (K.told sink.old) → RunText false (request_of (map string_bytes words.now)) (C.last_answer clock.new)
         (S.told source.old) (S.left source.old) (λ moment document status. Plain (R.Disk.told rig) (R.Disk.honest rig) → DocumentText document moment (R.Disk.seen rig) (R.Disk.may_leave rig)
         (R.Disk.faults rig) (R.Disk.faults result.1) (R.Disk.may_leave result.1) (K.held sink.old) (K.held sink.new) status)
         (λ n moment document status. Plain (R.Disk.told rig) (R.Disk.honest rig) → LoadText n document moment (R.Disk.seen rig) (R.Disk.may_leave rig)
@@ -83,7 +83,7 @@ pub fn run_plain<S: Source, K: Sink, R: Rig, C: Clock>(
     ensures rig_faults { R.Disk.faults rig ≤ R.Disk.faults result.1 }
     ensures source_faults { S.faults source.old ≤ S.faults source.new }
     ensures untouched { UntouchedBy (request_of (map string_bytes words.now)) (result.1 ≡ rig) result.0 }
-    ensures orders { OrdersBy (request_of (map string_bytes words.now)) (S.told source.old) (S.left source.old) (R.Disk.order rig) (R.Disk.orders rig) (R.Disk.order result.1) (R.Disk.orders result.1) result.0 }
+    ensures orders { OrdersBy false (request_of (map string_bytes words.now)) (S.told source.old) (S.left source.old) (R.Disk.order rig) (R.Disk.orders rig) (R.Disk.order result.1) (R.Disk.orders result.1) result.0 }
     ensures asked { Asks (request_of (map string_bytes words.now)) result.0 (C.times_asked clock.old) (C.times_asked clock.new) }
 {
     run_words(alloc, &NoBlocks, words, source, sink, rig, clock)
@@ -102,13 +102,13 @@ pub fn run<W: Threads + Wait + Sync, S: Source, K: Sink, R: Rig + Send, C: Clock
     gate: &Q,
 ) -> (Status, R)
     // Why it ended so, and what it put and left on the disk.
-    ensures cause { RunCause (request_of (map string_bytes words.now)) (S.told source.old) (S.left source.old)
+    ensures cause { RunCause true (request_of (map string_bytes words.now)) (S.told source.old) (S.left source.old)
         (Rose (S.faults source.old) (S.faults source.new)) (Rose (K.faults sink.old) (K.faults sink.new)) (DiskRose (R.Disk.faults rig) (R.Disk.faults result.1))
         (λ rules area at. Plain (R.Disk.told rig) (R.Disk.honest rig) → IsBad rules (R.Disk.seen rig) area at) result.0 }
     ensures complete { IsQuiet (Rose (S.faults source.old) (S.faults source.new)) (Rose (K.faults sink.old) (K.faults sink.new)) (DiskRose (R.Disk.faults rig) (R.Disk.faults result.1))
-        → EndsWell (request_of (map string_bytes words.now)) (S.told source.old) (S.left source.old)
+        → EndsWell true (request_of (map string_bytes words.now)) (S.told source.old) (S.left source.old)
         (λ rules. Plain (R.Disk.told rig) (R.Disk.honest rig) × IsStore rules (R.Disk.seen rig)) result.0 }
-    ensures text { IsTrue (K.told sink.old) → RunText (request_of (map string_bytes words.now)) (C.last_answer clock.new)
+    ensures text { IsTrue (K.told sink.old) → RunText true (request_of (map string_bytes words.now)) (C.last_answer clock.new)
         (S.told source.old) (S.left source.old) (λ moment document status. Plain (R.Disk.told rig) (R.Disk.honest rig) → DocumentText document moment (R.Disk.seen rig) (R.Disk.may_leave rig)
         (R.Disk.faults rig) (R.Disk.faults result.1) (R.Disk.may_leave result.1) (K.held sink.old) (K.held sink.new) status)
         (λ n moment document status. Plain (R.Disk.told rig) (R.Disk.honest rig) → LoadText n document moment (R.Disk.seen rig) (R.Disk.may_leave rig)
@@ -127,7 +127,7 @@ pub fn run<W: Threads + Wait + Sync, S: Source, K: Sink, R: Rig + Send, C: Clock
     ensures rig_faults { R.Disk.faults rig ≤ R.Disk.faults result.1 }
     ensures source_faults { S.faults source.old ≤ S.faults source.new }
     ensures untouched { UntouchedBy (request_of (map string_bytes words.now)) (result.1 ≡ rig) result.0 }
-    ensures orders { OrdersBy (request_of (map string_bytes words.now)) (S.told source.old) (S.left source.old) (R.Disk.order rig) (R.Disk.orders rig) (R.Disk.order result.1) (R.Disk.orders result.1) result.0 }
+    ensures orders { OrdersBy true (request_of (map string_bytes words.now)) (S.told source.old) (S.left source.old) (R.Disk.order rig) (R.Disk.orders rig) (R.Disk.order result.1) (R.Disk.orders result.1) result.0 }
     ensures asked { Asks (request_of (map string_bytes words.now)) result.0 (C.times_asked clock.old) (C.times_asked clock.new) }
 {
     run_words(
@@ -152,13 +152,13 @@ fn run_words<S: Source, K: Sink, R: Rig, C: Clock, B: Blocks<R>>(
     clock: &mut C,
 ) -> (Status, R)
     // Why it ended so, and what it put and left on the disk.
-    ensures cause { RunCause (request_of (map string_bytes words.now)) (S.told source.old) (S.left source.old)
+    ensures cause { RunCause B.SERVED (request_of (map string_bytes words.now)) (S.told source.old) (S.left source.old)
         (Rose (S.faults source.old) (S.faults source.new)) (Rose (K.faults sink.old) (K.faults sink.new)) (DiskRose (R.Disk.faults rig) (R.Disk.faults result.1))
         (λ rules area at. Plain (R.Disk.told rig) (R.Disk.honest rig) → IsBad rules (R.Disk.seen rig) area at) result.0 }
     ensures complete { IsQuiet (Rose (S.faults source.old) (S.faults source.new)) (Rose (K.faults sink.old) (K.faults sink.new)) (DiskRose (R.Disk.faults rig) (R.Disk.faults result.1))
-        → EndsWell (request_of (map string_bytes words.now)) (S.told source.old) (S.left source.old)
+        → EndsWell B.SERVED (request_of (map string_bytes words.now)) (S.told source.old) (S.left source.old)
         (λ rules. Plain (R.Disk.told rig) (R.Disk.honest rig) × IsStore rules (R.Disk.seen rig)) result.0 }
-    ensures text { IsTrue (K.told sink.old) → RunText (request_of (map string_bytes words.now)) (C.last_answer clock.new)
+    ensures text { IsTrue (K.told sink.old) → RunText B.SERVED (request_of (map string_bytes words.now)) (C.last_answer clock.new)
         (S.told source.old) (S.left source.old) (λ moment document status. Plain (R.Disk.told rig) (R.Disk.honest rig) → DocumentText document moment (R.Disk.seen rig) (R.Disk.may_leave rig)
         (R.Disk.faults rig) (R.Disk.faults result.1) (R.Disk.may_leave result.1) (K.held sink.old) (K.held sink.new) status)
         (λ n moment document status. Plain (R.Disk.told rig) (R.Disk.honest rig) → LoadText n document moment (R.Disk.seen rig) (R.Disk.may_leave rig)
@@ -177,7 +177,7 @@ fn run_words<S: Source, K: Sink, R: Rig, C: Clock, B: Blocks<R>>(
     ensures rig_faults { R.Disk.faults rig ≤ R.Disk.faults result.1 }
     ensures source_faults { S.faults source.old ≤ S.faults source.new }
     ensures untouched { UntouchedBy (request_of (map string_bytes words.now)) (result.1 ≡ rig) result.0 }
-    ensures orders { OrdersBy (request_of (map string_bytes words.now)) (S.told source.old) (S.left source.old) (R.Disk.order rig) (R.Disk.orders rig) (R.Disk.order result.1) (R.Disk.orders result.1) result.0 }
+    ensures orders { OrdersBy B.SERVED (request_of (map string_bytes words.now)) (S.told source.old) (S.left source.old) (R.Disk.order rig) (R.Disk.orders rig) (R.Disk.order result.1) (R.Disk.orders result.1) result.0 }
     ensures asked { Asks (request_of (map string_bytes words.now)) result.0 (C.times_asked clock.old) (C.times_asked clock.new) }
 {
     match read_words(words) {
@@ -209,10 +209,10 @@ fn run_source<S: Source, K: Sink, R: Rig, C: Clock, B: Blocks<R>>(
     rig: R,
     clock: &mut C,
 ) -> (Status, R)
-    ensures cause { SourceCause (S.told source.old) (S.left source.old)
+    ensures cause { SourceCause B.SERVED (S.told source.old) (S.left source.old)
         (Rose (S.faults source.old) (S.faults source.new)) (Rose (K.faults sink.old) (K.faults sink.new)) (DiskRose (R.Disk.faults rig) (R.Disk.faults result.1))
         (λ rules area at. Plain (R.Disk.told rig) (R.Disk.honest rig) → IsBad rules (R.Disk.seen rig) area at) result.0 }
-    ensures text { IsTrue (K.told sink.old) → SourceText (S.told source.old) (S.left source.old)
+    ensures text { IsTrue (K.told sink.old) → SourceText B.SERVED (S.told source.old) (S.left source.old)
         (λ document status. Plain (R.Disk.told rig) (R.Disk.honest rig) → DocumentText document (moment_of_start start (C.last_answer clock.new)) (R.Disk.seen rig) (R.Disk.may_leave rig)
         (R.Disk.faults rig) (R.Disk.faults result.1) (R.Disk.may_leave result.1) (K.held sink.old) (K.held sink.new) status)
         (K.held sink.old) (K.held sink.new) result.0 }
@@ -226,7 +226,7 @@ fn run_source<S: Source, K: Sink, R: Rig, C: Clock, B: Blocks<R>>(
     ensures rig_faults { R.Disk.faults rig ≤ R.Disk.faults result.1 }
     ensures source_faults { S.faults source.old ≤ S.faults source.new }
     ensures untouched { Untouched (result.1 ≡ rig) result.0 }
-    ensures orders { IsTrue (S.told source.old) → OrdersOf (S.left source.old) (R.Disk.order rig) (R.Disk.orders rig) (R.Disk.order result.1) (R.Disk.orders result.1) result.0 }
+    ensures orders { IsTrue (S.told source.old) → OrdersOf B.SERVED (S.left source.old) (R.Disk.order rig) (R.Disk.orders rig) (R.Disk.order result.1) (R.Disk.orders result.1) result.0 }
     ensures asked { AsksFor start result.0 (C.times_asked clock.old) (C.times_asked clock.new) }
 {
     match read_at_most(alloc, source, READ_LIMIT) {
@@ -245,9 +245,9 @@ fn run_bytes<K: Sink, R: Rig, C: Clock, B: Blocks<R>>(
     rig: R,
     clock: &mut C,
 ) -> (Status, R)
-    ensures cause { BytesCause bytes.now (Rose (K.faults sink.old) (K.faults sink.new)) (DiskRose (R.Disk.faults rig) (R.Disk.faults result.1))
+    ensures cause { BytesCause B.SERVED bytes.now (Rose (K.faults sink.old) (K.faults sink.new)) (DiskRose (R.Disk.faults rig) (R.Disk.faults result.1))
         (λ rules area at. Plain (R.Disk.told rig) (R.Disk.honest rig) → IsBad rules (R.Disk.seen rig) area at) result.0 }
-    ensures text { IsTrue (K.told sink.old) → BytesText bytes.now
+    ensures text { IsTrue (K.told sink.old) → BytesText B.SERVED bytes.now
         (λ document status. Plain (R.Disk.told rig) (R.Disk.honest rig) → DocumentText document (moment_of_start start (C.last_answer clock.new)) (R.Disk.seen rig) (R.Disk.may_leave rig)
         (R.Disk.faults rig) (R.Disk.faults result.1) (R.Disk.may_leave result.1) (K.held sink.old) (K.held sink.new) status)
         (K.held sink.old) (K.held sink.new) result.0 }
@@ -256,7 +256,7 @@ fn run_bytes<K: Sink, R: Rig, C: Clock, B: Blocks<R>>(
     ensures telling { SameTelling R.Disk.told R.Disk.honest rig result.1 }
     ensures rig_faults { R.Disk.faults rig ≤ R.Disk.faults result.1 }
     ensures untouched { Untouched (result.1 ≡ rig) result.0 }
-    ensures orders { OrdersOf bytes.now (R.Disk.order rig) (R.Disk.orders rig) (R.Disk.order result.1) (R.Disk.orders result.1) result.0 }
+    ensures orders { OrdersOf B.SERVED bytes.now (R.Disk.order rig) (R.Disk.orders rig) (R.Disk.order result.1) (R.Disk.orders result.1) result.0 }
     ensures asked { AsksFor start result.0 (C.times_asked clock.old) (C.times_asked clock.new) }
 {
     let document = match read_document(alloc, bytes, B::SERVED) {
@@ -302,7 +302,7 @@ fn run_document<K: Sink, R: Rig, B: Blocks<R>>(
     requires rules { document.rules ≡ numbered document.schema }
     requires named { HasNames document.schema document.rules }
     requires numbered { All (IsNumberedCommand document.rules) document.commands }
-    requires lanes { All HasNoLanes document.commands }
+    requires lanes { B.SERVED ≡ false → All HasNoLanes document.commands }
     ensures cause { ScriptCause (Rose (K.faults sink.old) (K.faults sink.new)) (DiskRose (R.Disk.faults rig) (R.Disk.faults result.1))
         (λ area at. Plain (R.Disk.told rig) (R.Disk.honest rig) → IsBad document.rules (R.Disk.seen rig) area at) result.0 }
     ensures text { IsTrue (K.told sink.old) → Plain (R.Disk.told rig) (R.Disk.honest rig) → DocumentText document moment (R.Disk.seen rig) (R.Disk.may_leave rig)
@@ -382,7 +382,7 @@ fn run_commands<K: Sink, R: Rig, B: Blocks<R>>(
     requires rules { store.book.rules ≡ numbered schema.now }
     requires named { HasNames schema.now store.book.rules }
     requires numbered { All (IsNumberedCommand store.book.rules) commands.now }
-    requires lanes { All HasNoLanes commands.now }
+    requires lanes { B.SERVED ≡ false → All HasNoLanes commands.now }
     ensures cause { ScriptCause (Rose (K.faults sink.old) (K.faults sink.new)) (DiskRose (R.Disk.faults store.book.rig) (R.Disk.faults result.1))
         (λ area at. Plain (R.Disk.told store.book.rig) (R.Disk.honest store.book.rig) → (e : Payloads)
         → StandsOn (world_of store.book store.clock e) (R.Disk.may_leave store.book.rig) → ⊥) result.0 }
@@ -427,7 +427,7 @@ fn make<R: Rig, B: Blocks<R>>(
     requires rules { store.book.rules ≡ numbered schema.now }
     requires named { HasNames schema.now store.book.rules }
     requires numbered { IsNumberedCommand store.book.rules command.now }
-    requires lanes { HasNoLanes command.now }
+    requires lanes { B.SERVED ≡ false → HasNoLanes command.now }
     ensures same_rules { IfOk result (λ it. it.0.book.rules ≡ store.book.rules) }
     ensures serves { IfOk result (λ it. Plain (R.Disk.told store.book.rig) (R.Disk.honest store.book.rig) → (e : Payloads)
         → Carries R.Disk.may_leave R.Disk.faults schema.now command.now store.book it.0.book store.clock it.0.clock e it.1) }
@@ -449,9 +449,10 @@ fn make<R: Rig, B: Blocks<R>>(
             Err(fault) => Err(fault),
         };
     }
-    match serve(alloc, blocks, schema, store, command) {
-        Ok(it) => Ok(it),
-        Err(rig) => Err((OpenFault::OutOfMemory, rig)),
+    let (store, lines) = serve(alloc, blocks, schema, store, command);
+    match lines {
+        Ok(lines) => Ok((store, lines)),
+        Err(AllocError) => Err(starved(store)),
     }
 }
 

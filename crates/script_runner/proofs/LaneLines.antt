@@ -1,0 +1,59 @@
+-- The lines of lanes and the counts of their calls, one by one.
+use Rattle.std.proofs.Common.{◌≡◌, ℕ, zero, suc, ◌+◌, ◌<◌, ◌≤◌, Bool, true, false, cond, Option, Some, None, List, [], ◌∷◌, ◌++◌, length, length-append, take, map, flat_map, refl, sym, ap, subst, ◌∙◌, inl, inr, arith, append_assoc, append-nil}
+use Rattle.std.specs.Prelude.{slice_get}
+use Rattle.std.specs.List.{filter}
+use Rattle.std.proofs.lemmas.Option.{slice_get_within}
+use Rattle.std.proofs.lemmas.List.Elements.{filter-append}
+use Rattle.delf_model.specs.declared.schema.Schema.{Schema}
+use Rattle.delf_model.specs.declared.script.Lane.{Lane}
+use Rattle.delf_model.specs.declared.script.LaneCommand.{LaneCommand}
+use Rattle.delf_service.specs.declared.replies.LaneOut.{LaneOut}
+use Rattle.delf_service.specs.declared.replies.LaneReply.{LaneReply}
+use Rattle.job_report.specs.Texts.{lane_text}
+use Rattle.script_runner.specs.Blocks.{reply_line, lane_lines, lanes_lines, replies_of}
+
+-- one command more of a lane
+pub lane_more : (schema : Schema) (place : ℕ) (commands : List LaneCommand) (replies : List LaneReply) (k : ℕ) (command : LaneCommand) (reply : LaneReply) →
+    slice_get commands k ≡ Some command → slice_get replies k ≡ Some reply →
+    lane_lines schema place commands (take (k + 1) replies) ≡ lane_lines schema place commands (take k replies) ++ lane_text place (reply_line schema command reply)
+lane_more schema place [] replies k command reply at here = absurd (cc at)
+lane_more schema place (c ∷ cs) [] k command reply at here = absurd (cc here)
+lane_more schema place (c ∷ cs) (r ∷ rs) zero command reply at here =
+    let one : c ≡ command = cc at in
+    let two : r ≡ reply = cc here in
+    append-nil (lane_text place (reply_line schema c r)) ∙ ap (λ (x : LaneCommand). lane_text place (reply_line schema x r)) one
+    ∙ ap (λ (x : LaneReply). lane_text place (reply_line schema command x)) two
+lane_more schema place (c ∷ cs) (r ∷ rs) (suc k) command reply at here =
+    let next : suc k + 1 ≡ suc (k + 1) = omega arith in
+    ap (λ (n : ℕ). lane_lines schema place (c ∷ cs) (take n (r ∷ rs))) next
+    ∙ ap (λ (t : List ℕ). lane_text place (reply_line schema c r) ++ t) (lane_more schema place cs rs k command reply at here)
+    ∙ sym (append_assoc (lane_text place (reply_line schema c r)) (lane_lines schema place cs (take k rs)) (lane_text place (reply_line schema command reply)))
+
+pub lane_none : (schema : Schema) (place : ℕ) (commands : List LaneCommand) → lane_lines schema place commands [] ≡ []
+lane_none schema place [] = refl
+lane_none schema place (c ∷ cs) = refl
+
+pub lanes_none : (schema : Schema) (from : ℕ) (lanes : List Lane) → lanes_lines schema from lanes [] ≡ []
+lanes_none schema from [] = refl
+lanes_none schema from (l ∷ ls) = refl
+
+-- one lane more
+pub lanes_more : (schema : Schema) (from : ℕ) (lanes : List Lane) (outs : List LaneOut) (k : ℕ) (one : Lane) (out : LaneOut) →
+    slice_get lanes k ≡ Some one → slice_get outs k ≡ Some out →
+    lanes_lines schema from lanes (take (k + 1) outs) ≡ lanes_lines schema from lanes (take k outs) ++ lane_lines schema (from + k) one.commands out.replies
+lanes_more schema from [] outs k one out at here = absurd (cc at)
+lanes_more schema from (l ∷ ls) [] k one out at here = absurd (cc here)
+lanes_more schema from (l ∷ ls) (o ∷ os) zero one out at here =
+    let first : l ≡ one = cc at in
+    let second : o ≡ out = cc here in
+    let place : from ≡ from + 0 = omega arith in
+    ap (λ (t : List ℕ). lane_lines schema from l.commands o.replies ++ t) (lanes_none schema (from + 1) ls)
+    ∙ append-nil (lane_lines schema from l.commands o.replies) ∙ ap (λ (x : Lane). lane_lines schema from x.commands o.replies) first
+    ∙ ap (λ (x : LaneOut). lane_lines schema from one.commands x.replies) second ∙ ap (λ (n : ℕ). lane_lines schema n one.commands out.replies) place
+lanes_more schema from (l ∷ ls) (o ∷ os) (suc k) one out at here =
+    let next : suc k + 1 ≡ suc (k + 1) = omega arith in
+    let place : (from + 1) + k ≡ from + suc k = omega arith in
+    ap (λ (n : ℕ). lanes_lines schema from (l ∷ ls) (take n (o ∷ os))) next
+    ∙ ap (λ (t : List ℕ). lane_lines schema from l.commands o.replies ++ t) (lanes_more schema (from + 1) ls os k one out at here)
+    ∙ sym (append_assoc (lane_lines schema from l.commands o.replies) (lanes_lines schema (from + 1) ls (take k os)) (lane_lines schema ((from + 1) + k) one.commands out.replies))
+    ∙ ap (λ (n : ℕ). lanes_lines schema from (l ∷ ls) (o ∷ take k os) ++ lane_lines schema n one.commands out.replies) place

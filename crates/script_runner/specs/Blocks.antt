@@ -1,0 +1,116 @@
+-- A block: lanes that run at once, from a world to the next one, and their lines.
+use Rattle.std.specs.Prelude.{◌≡◌, ℕ, ◌+◌, Bool, true, false, not, Option, Some, None, Result, Ok, Err, List, [], ◌∷◌, ◌++◌, length, is_ok, slice_get, flat_map}
+use Rattle.std.specs.List.{filter}
+use Rattle.delf_model.specs.declared.schema.Schema.{Schema}
+use Rattle.delf_model.specs.declared.call.Call.{Call}
+use Rattle.delf_model.specs.declared.call.Refusal.{Refusal}
+use Rattle.delf_model.specs.declared.call.Refusal.TheVariants as refusal
+use Rattle.delf_model.specs.declared.rows.ObjectRow.{ObjectRow}
+use Rattle.delf_model.specs.declared.script.Lane.{Lane}
+use Rattle.delf_model.specs.declared.script.LaneCommand.{LaneCommand}
+use Rattle.delf_model.specs.declared.script.LaneCommand.TheVariants as lane
+use Rattle.delf_book.specs.declared.answers.Receipt.{Receipt}
+use Rattle.delf_book.specs.declared.answers.BookFault.{BookFault}
+use Rattle.delf_book.specs.declared.answers.BookFault.TheVariants as fault
+use Rattle.delf_service.specs.declared.answers.Asked.{Asked}
+use Rattle.delf_service.specs.declared.replies.LaneOut.{LaneOut}
+use Rattle.delf_service.specs.declared.replies.LaneReply.{LaneReply}
+use Rattle.delf_service.specs.declared.replies.LaneReply.TheVariants.{Submitted, Got}
+use Rattle.delf_service.specs.declared.standing.Standing.{Standing}
+use Rattle.delf_service.specs.Blocks.{HasLanes, IsBlock}
+use Rattle.delf_service.specs.Lanes.{IsStarved}
+use Rattle.job_report.specs.Texts.{refusal_text, down_text, found_text, absent_text, lane_text, par_text}
+use Rattle.documents.specs.Names.{kind_name}
+use Rattle.script_runner.specs.Lines.{receipt_text, refusal_name}
+use Rattle.script_runner.specs.Worlds.{World}
+
+-- a world as a shared book stands, with the count of its disk's faults, where each call is made at the clock's moment
+abbrev pub standing_in : World → ℕ → Standing
+standing_in w faults = record {
+  history = w.history;
+  faults = faults;
+  down = w.down;
+  key = record { rules = w.rules; moment = Some w.clock };
+}
+
+-- the line of a reply, at the length of the history that it found
+
+abbrev pub answer_line : Schema → Call → ℕ → Result Receipt Refusal → List ℕ
+answer_line schema asked at (Ok receipt) = receipt_text schema asked receipt
+answer_line schema asked at (Err refused) = refusal_text refused at (refusal_name schema refused)
+
+abbrev pub row_line : Schema → ℕ → ℕ → Option (ObjectRow × Option ℕ) → List ℕ → List ℕ
+row_line schema at id None payload = absent_text at id
+row_line schema at id (Some row) payload = found_text at row.0 (kind_name schema row.0.kind) payload row.1
+
+abbrev pub read_line : Schema → ℕ → Asked → List ℕ → Option BookFault → List ℕ
+read_line schema id asked payload None = row_line schema asked.at id asked.found payload
+read_line schema id asked payload (Some (fault.Down len)) = refusal_text (refusal.Down len) len []
+read_line schema id asked payload (Some (fault.DiskFault len)) = down_text len
+
+abbrev pub reply_line : Schema → LaneCommand → LaneReply → List ℕ
+reply_line schema (lane.Submit asked) (Submitted a) = answer_line schema asked a.at a.reply
+reply_line schema (lane.Get id) (Got asked payload) = read_line schema id asked payload asked.fault
+reply_line schema command reply = []
+
+-- the lines of a lane's commands, each behind the number of the lane
+abbrev pub lane_lines : Schema → ℕ → List LaneCommand → List LaneReply → List ℕ
+lane_lines schema place [] replies = []
+lane_lines schema place (command ∷ more) [] = []
+lane_lines schema place (command ∷ more) (reply ∷ rest) = lane_text place (reply_line schema command reply) ++ lane_lines schema place more rest
+
+-- those of the lanes from this number on, lane after lane
+abbrev pub lanes_lines : Schema → ℕ → List Lane → List LaneOut → List ℕ
+lanes_lines schema place [] outs = []
+lanes_lines schema place (one ∷ more) [] = []
+lanes_lines schema place (one ∷ more) (out ∷ rest) =
+    lane_lines schema place one.commands out.replies ++ lanes_lines schema (place + 1) more rest
+
+abbrev pub is_accepted : LaneReply → Bool
+is_accepted (Submitted a) = is_ok a.reply
+is_accepted (Got asked payload) = false
+
+abbrev pub is_refused : LaneReply → Bool
+is_refused (Submitted a) = not (is_ok a.reply)
+is_refused (Got asked payload) = false
+
+-- the replies of all lanes
+abbrev pub replies_of : List LaneOut → List LaneReply
+replies_of outs = flat_map (λ (out : LaneOut). out.replies) outs
+
+-- the block's line: how many calls were accepted and how many were not, and the length of the history
+abbrev pub last_line : List LaneOut → ℕ → Bool → List ℕ
+last_line outs len down = par_text (length (filter is_accepted (replies_of outs))) (length (filter is_refused (replies_of outs))) len down
+
+-- the lines of a block, where it is quiet its own alone
+abbrev pub block_lines : Schema → Bool → List Lane → List LaneOut → ℕ → Bool → List ℕ
+block_lines schema true lanes outs len down = last_line outs len down
+block_lines schema false lanes outs len down = lanes_lines schema 0 lanes outs ++ last_line outs len down
+
+-- no call wanted memory
+abbrev pub HasOnlyFed : List LaneReply → Type 0
+HasOnlyFed replies = (k : ℕ) (reply : LaneReply) → slice_get replies k ≡ Some reply → IsStarved reply → ⊥
+
+abbrev pub AreFed : List LaneOut → Type 0
+AreFed outs = (place : ℕ) (out : LaneOut) → slice_get outs place ≡ Some out → HasOnlyFed out.replies
+
+-- The lanes of a block were run from a world that is up. The history of the next world begins with the world's and is legal,
+-- each entry behind it has the moment of its place, and is a step or an accepted call of one lane. Each lane has the replies of the
+-- book to all its commands, each at its length, and its accepted calls stand in their order. While the next world is up no step
+-- is left, or the first is one that would put back a damaged item; it is down only where the count of faults rose.
+pub record RunsLanes (schema : Schema) (w : World) (quiet : Bool) (lanes : List Lane) (before now : ℕ) (text : List ℕ) (next : World) : Type 0 where
+  pub up : w.down ≡ false
+  pub outs : List LaneOut
+  pub has : HasLanes (standing_in w before) (standing_in next now) (length lanes)
+  pub block : IsBlock (standing_in w before) (standing_in next now) w.clock lanes outs
+  pub fed : AreFed outs
+  pub clock : next.clock ≡ w.clock
+  pub text_is : text ≡ block_lines schema quiet lanes outs (length next.history) next.down
+
+-- where want of memory may leave a block: with some of its entries
+pub record LeavesLanes (w : World) (lanes : List Lane) (next : World) : Type 0 where
+  pub up : w.down ≡ false
+  pub before : ℕ
+  pub now : ℕ
+  pub has : HasLanes (standing_in w before) (standing_in next now) (length lanes)
+  pub clock : next.clock ≡ w.clock
