@@ -1,14 +1,17 @@
 -- The lines of lanes and the counts of their calls, one by one.
-use Rattle.std.proofs.Common.{◌≡◌, ℕ, zero, suc, ◌+◌, ◌<◌, ◌≤◌, Bool, true, false, cond, Option, Some, None, List, [], ◌∷◌, ◌++◌, length, length-append, take, map, flat_map, refl, sym, ap, subst, ◌∙◌, inl, inr, arith, append_assoc, append-nil}
+use Rattle.std.proofs.Common.{◌≡◌, ℕ, zero, suc, ◌+◌, ◌<◌, ◌≤◌, Bool, true, false, cond, Option, Some, None, List, [], ◌∷◌, ◌++◌, length, length-append, get_or, take, flat_map, refl, sym, ap, subst, ◌∙◌, ⊎_elim, arith, append_assoc, append-nil}
 use Rattle.std.specs.Prelude.{slice_get}
 use Rattle.std.specs.List.{filter}
-use Rattle.std.proofs.lemmas.Option.{slice_get_within}
+use Rattle.std.proofs.lemmas.List.{take_more}
 use Rattle.std.proofs.lemmas.List.Elements.{filter-append}
 use Rattle.delf_model.specs.declared.schema.Schema.{Schema}
 use Rattle.delf_model.specs.declared.script.Lane.{Lane}
 use Rattle.delf_model.specs.declared.script.LaneCommand.{LaneCommand}
 use Rattle.delf_service.specs.declared.replies.LaneOut.{LaneOut}
 use Rattle.delf_service.specs.declared.replies.LaneReply.{LaneReply}
+use Rattle.delf_service.proofs.Places.{push_cases}
+use Rattle.documents.proofs.Places.{take_past}
+use Rattle.documents.proofs.Turns.{lists_grow}
 use Rattle.job_report.specs.Texts.{lane_text}
 use Rattle.script_runner.specs.Blocks.{reply_line, lane_lines, lanes_lines, replies_of}
 
@@ -57,3 +60,40 @@ lanes_more schema from (l ∷ ls) (o ∷ os) (suc k) one out at here =
     ∙ ap (λ (t : List ℕ). lane_lines schema from l.commands o.replies ++ t) (lanes_more schema (from + 1) ls os k one out at here)
     ∙ sym (append_assoc (lane_lines schema from l.commands o.replies) (lanes_lines schema (from + 1) ls (take k os)) (lane_lines schema ((from + 1) + k) one.commands out.replies))
     ∙ ap (λ (n : ℕ). lanes_lines schema from (l ∷ ls) (o ∷ take k os) ++ lane_lines schema n one.commands out.replies) place
+
+-- the calls of some kind among so many replies
+
+filter_one : {A : Type 0} (x : A) (b : Bool) → length (cond b (x ∷ []) []) ≡ cond b 1 0
+filter_one x true = refl
+filter_one x false = refl
+
+pub filter_more : {A : Type 0} (p : A → Bool) (xs : List A) (i before : ℕ) (x : A) (n m : ℕ) → i < length xs → x ≡ get_or xs i x →
+    n ≡ before + length (filter p (take i xs)) → m ≡ n + cond (p x) 1 0 → m ≡ before + length (filter p (take (i + 1) xs))
+filter_more p xs i before x n m below is so_far more =
+    let grown : length (filter p (take (i + 1) xs)) ≡ length (filter p (take i xs)) + cond (p x) 1 0 =
+    ap (λ (l : List _). length (filter p l)) (take_more xs i x below ∙ ap (λ (y : _). take i xs ++ y ∷ []) (sym is))
+    ∙ ap length (filter-append p (take i xs) (x ∷ []))
+    ∙ length-append (filter p (take i xs)) (cond (p x) (x ∷ []) [])
+    ∙ ap (λ (k : ℕ). length (filter p (take i xs)) + k) (filter_one x (p x)) in
+    omega (arith, so_far, more, grown)
+
+pub lists_more : {A B : Type 0} (p : B → Bool) (f : A → List B) (xs : List A) (i : ℕ) (x : A) (n m : ℕ) → i < length xs → x ≡ get_or xs i x →
+    n ≡ length (filter p (flat_map f (take i xs))) → m ≡ n + length (filter p (f x)) → m ≡ length (filter p (flat_map f (take (i + 1) xs)))
+lists_more p f xs i x n m below is so_far more =
+    let seen : flat_map f (take i xs) ++ f x ≡ flat_map f (take (i + 1) xs) = lists_grow f xs i x [] (flat_map f (take i xs)) (flat_map f (take i xs) ++ f x) below is refl refl in
+    let grown : length (filter p (flat_map f (take (i + 1) xs))) ≡ length (filter p (flat_map f (take i xs))) + length (filter p (f x)) =
+    ap (λ (l : List _). length (filter p l)) (sym seen)
+    ∙ ap length (filter-append p (flat_map f (take i xs)) (f x)) ∙ length-append (filter p (flat_map f (take i xs))) (filter p (f x)) in
+    omega (arith, so_far, more, grown)
+
+-- a fact of each element, for one more
+pub each_more : {A : Type 0} (P : A → Type 0) (xs : List A) (i : ℕ) (x : A) → i < length xs → x ≡ get_or xs i x →
+    ((k : ℕ) (y : A) → slice_get (take i xs) k ≡ Some y → P y) → P x → (k : ℕ) (y : A) → slice_get (take (i + 1) xs) k ≡ Some y → P y
+each_more P xs i x below is so_far one = λ k y at.
+    let grown : take (i + 1) xs ≡ take i xs ++ x ∷ [] = take_more xs i x below ∙ ap (λ (z : _). take i xs ++ z ∷ []) (sym is) in
+    ⊎_elim (λ t. so_far k y t.1) (λ t. subst P t.1 one)
+    (push_cases (take i xs) x y k (ap (λ (l : List _). slice_get l k) (sym grown) ∙ at))
+
+pub each_all : {A : Type 0} (P : A → Type 0) (xs : List A) (i : ℕ) → length xs ≤ i → ((k : ℕ) (y : A) → slice_get (take i xs) k ≡ Some y → P y) →
+    (k : ℕ) (y : A) → slice_get xs k ≡ Some y → P y
+each_all P xs i past all = λ k y at. all k y (ap (λ (l : List _). slice_get l k) (take_past xs i past) ∙ at)

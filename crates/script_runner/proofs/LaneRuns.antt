@@ -1,6 +1,6 @@
 -- A block that was run, said of the world.
 use Rattle.std.proofs.Common.{◌≡◌, ◌⊎◌, ℕ, zero, suc, ◌<◌, ◌≤◌, Bool, true, false, Option, Some, None, Result, Ok, Err, List, [], ◌∷◌, length, get_or, take, refl, sym, ap, subst, ◌∙◌, inl, inr, arith}
-use Rattle.std.specs.Prelude.{IfErr, IfSome, slice_get}
+use Rattle.std.specs.Prelude.{IfOk, IfErr, IfSome, IsOkAnd, slice_get}
 use Rattle.std.specs.List.{All}
 use Rattle.std.proofs.lemmas.Option.{slice_get_within, slice_get-get_or, slice_get_past}
 use Rattle.delf_disk.specs.Areas.{Areas}
@@ -52,6 +52,12 @@ use Rattle.script_runner.proofs.Keeping.{object_if}
 use Rattle.script_runner.proofs.Numbered.{rules_after, numbered_after}
 use Rattle.script_runner.proofs.Refusals.{reply_numbered}
 use Rattle.script_runner.proofs.Standing.{stands_held}
+
+-- what is served, by the command
+
+pub served_if : (b : Bool) → (b ≡ false → ⊥) → b ≡ true
+served_if true not_false = refl
+served_if false not_false = absurd (not_false refl)
 
 -- the numbers of a block's calls are those that lanes have to have
 
@@ -152,9 +158,14 @@ outs_numbered schema first final workers now lanes outs names numbered has block
     let below = slice_get_within outs place out at in
     let one = some_at lanes place (omega (arith, below, block.count)) in
     let done = block.each place out at in
-    let told = subst (λ (o : Option Lane). LaneTold final now (lane_seat first place) (made_by seat_of (lane_seat first place) final.history) (commands_in o) out.replies) one.1 done.told in
-    (one.0, (one.1, replies_numbered schema final names has.legal now (lane_seat first place) (made_by seat_of (lane_seat first place) final.history) one.0 out.replies
-    (all_at (IsNumberedLane final.key.rules) lanes place one.0 numbered.each one.1) told))
+    let told = subst (λ (o : Option Lane). LaneTold final now (lane_seat first place) (made_by seat_of (lane_seat first place) final.history) (commands_in o) out.replies) one.1 done.told in (
+      one.0,
+      (
+        one.1,
+        replies_numbered schema final names has.legal now (lane_seat first place) (made_by seat_of (lane_seat first place) final.history) one.0 out.replies
+            (all_at (IsNumberedLane final.key.rules) lanes place one.0 numbered.each one.1) told,
+      ),
+    )
 
 pub outs_few : (first final : Standing) (rules : RuleSet) (workers now : ℕ) (lanes : List Lane) (outs : List LaneOut) → IsNumberedBlock rules workers lanes →
     IsBlock first final now lanes outs → length outs ≤ 16
@@ -203,3 +214,21 @@ module _ {G R : Type 0} (seen : R → Areas) (may_leave : R → Areas → Type 0
     halts = inl refl;
     held = stands_held (world_of old clock e) (may_leave old.rig) legal stands;
   }
+
+  -- by what the lanes answered, if memory was not wanting
+  pub block_serves : {V E : Type 0} (items : V → List LaneOut) (outs : Result V E) (e : Payloads) (text : List ℕ) → old.down ≡ false → HasLanes first final (length lanes) →
+      IfOk outs (λ v. IsBlock first final clock lanes (items v)) →
+      IsOkAnd outs (λ v. AreFed (items v) × (text ≡ block_lines schema quiet lanes (items v) (length now.history) now.down)) →
+      (now.down ≡ false → now.beside ≡ None) → Holds seen may_leave now →
+      Carried may_leave faults schema (Par quiet workers turns lanes) (world_of old clock e) (faults old.rig) now clock text
+  block_serves items (Ok v) e text up has block said alone holds = block_carried e (items v) text up has block said.0 said.1 alone holds
+  block_serves items (Err why) e text up has block said alone holds = absurd said
+
+  pub block_lined : {V : Type 0} (items : V → List LaneOut) (v : V) → HasNames schema old.rules → IsNumberedBlock old.rules workers lanes → HasLanes first final (length lanes) →
+      IsBlock first final clock lanes (items v) → AreNumberedOuts schema lanes (items v) × (length (items v) ≤ 16)
+  block_lined items v names numbered has block =
+      let rules : old.rules ≡ now.rules = ap (λ (k : Key). k.rules) (sym has.later.key) in (
+        outs_numbered schema first final workers clock lanes (items v) (subst (HasNames schema) rules names)
+            (subst (λ (r : RuleSet). IsNumberedBlock r workers lanes) rules numbered) has block,
+        outs_few first final old.rules workers clock lanes (items v) numbered block,
+      )

@@ -28,7 +28,7 @@ use Rattle.script_runner.specs.Openings.{StopCounts}
 use Rattle.script_runner.specs.Orders.{Gives}
 use Rattle.documents.specs.Cuts.{IsCut}
 use Rattle.script_runner.specs.Outcomes.{LoadCause, LoadedText, AsksOnce, Untouched}
-use Rattle.script_runner.specs.Standing.{Falls, Carried, IsServed, Leads}
+use Rattle.script_runner.specs.Standing.{Falls, Carried, IsOpen, Leads}
 use Rattle.script_runner.specs.Worlds.{World, StandsOn, IsHeld, state_of, world_of}
 use Rattle.script_runner.proofs.Causes.{rose_from, rose_to}
 use Rattle.script_runner.proofs.Endings.{settled_end, down_end, fell_end}
@@ -39,18 +39,18 @@ use Rattle.script_runner.proofs.Texts.{ran_of}
 
 -- a still command
 
-pub still_served : (command : Command) → IsStill command → IsServed command
-still_served (Submit asked) still = tt
-still_served (Work n) still = tt
-still_served (Tick n) still = tt
-still_served (Get id) still = tt
-still_served Show still = tt
-still_served (Job name) still = tt
-still_served Jobs still = tt
-still_served Report still = tt
-still_served (Fail n) still = tt
-still_served (Crash pick) still = still
-still_served (Par quiet workers turns lanes) still = still
+pub still_open : (command : Command) → IsStill command → IsOpen command
+still_open (Submit asked) still = tt
+still_open (Work n) still = tt
+still_open (Tick n) still = tt
+still_open (Get id) still = tt
+still_open Show still = tt
+still_open (Job name) still = tt
+still_open Jobs still = tt
+still_open Report still = tt
+still_open (Fail n) still = tt
+still_open (Crash pick) still = still
+still_open (Par quiet workers turns lanes) still = tt
 
 pub still_orders : (command : Command) (a b : Order) (l m : ℕ) → IsStill command → Gives command a l b m → (b ≡ a) × (m ≡ l)
 still_orders (Submit asked) a b l m still gives = gives
@@ -63,7 +63,7 @@ still_orders Jobs a b l m still gives = gives
 still_orders Report a b l m still gives = gives
 still_orders (Fail n) a b l m still gives = absurd still
 still_orders (Crash pick) a b l m still gives = absurd still
-still_orders (Par quiet workers turns lanes) a b l m still gives = absurd still
+still_orders (Par quiet workers turns lanes) a b l m still gives = gives
 
 -- none yet, one more, and all
 

@@ -1,5 +1,5 @@
 //! What runs the lanes of a block: nothing, where blocks are not served, or threads.
-ghost use Rattle.std.specs.Prelude.{◌≡◌, ◌≤◌, ℕ, true, Some, IfOk, length, slice_get};
+ghost use Rattle.std.specs.Prelude.{◌≡◌, ◌≤◌, ℕ, true, false, Some, IfOk, length, slice_get};
 ghost use Rattle.delf_disk.specs.Plain.{SameKind};
 ghost use Rattle.delf_model.specs.declared.script.LaneCommand.{LaneCommand as Commanded};
 ghost use Rattle.delf_service.specs.Blocks.{HasLanes, IsBlock};
@@ -47,13 +47,20 @@ impl<R: Rig> Blocks<R> for NoBlocks {
 
     fn run(
         &self,
-        _alloc: Global,
-        _book: ProgramBook<R>,
-        _now: Moment,
-        _lanes: &[Lane],
-        _workers: u8,
-        _turns: u32,
-    ) -> (ProgramBook<R>, Result<Vec<LaneOut>, AllocError>) {
+        alloc: Global,
+        book: ProgramBook<R>,
+        now: Moment,
+        lanes: &[Lane],
+        workers: u8,
+        turns: u32,
+    ) -> (ProgramBook<R>, Result<Vec<LaneOut>, AllocError>)
+        requires served { false ≡ true }
+        requires few { (length lanes.now ≤ 16) × (workers ≤ 16) }
+        requires numbers { (k i : ℕ) (c : Commanded) → slice_get (commands_at lanes.now k) i ≡ Some c → HasCommand book.rules c }
+        ensures kept { HasLanes (standing_of R.Disk.faults book (Some now)) (standing_of R.Disk.faults result.0 (Some now)) (length lanes.now) }
+        ensures kind { SameKind R.Disk.told R.Disk.honest R.Disk.order R.Disk.orders book.rig result.0.rig }
+        ensures block { IfOk result.1 (λ outs. IsBlock (standing_of R.Disk.faults book (Some now)) (standing_of R.Disk.faults result.0 (Some now)) now lanes.now outs.items) }
+    {
         unreachable!()
     }
 }
@@ -76,7 +83,13 @@ impl<'a, W: Threads + Wait + Sync, Q: Gate + Sync, R: Rig + Send> Blocks<R> for 
         lanes: &[Lane],
         _workers: u8,
         _turns: u32,
-    ) -> (ProgramBook<R>, Result<Vec<LaneOut>, AllocError>) {
+    ) -> (ProgramBook<R>, Result<Vec<LaneOut>, AllocError>)
+        requires few { (length lanes.now ≤ 16) × (_workers ≤ 16) }
+        requires numbers { (k i : ℕ) (c : Commanded) → slice_get (commands_at lanes.now k) i ≡ Some c → HasCommand book.rules c }
+        ensures kept { HasLanes (standing_of R.Disk.faults book (Some now)) (standing_of R.Disk.faults result.0 (Some now)) (length lanes.now) }
+        ensures kind { SameKind R.Disk.told R.Disk.honest R.Disk.order R.Disk.orders book.rig result.0.rig }
+        ensures block { IfOk result.1 (λ outs. IsBlock (standing_of R.Disk.faults book (Some now)) (standing_of R.Disk.faults result.0 (Some now)) now lanes.now outs.items) }
+    {
         run_lanes(self.rt, alloc, book, now, lanes, self.gate)
     }
 }

@@ -4,7 +4,7 @@ ghost use Rattle.delf_io.specs.Faults.{Rose};
 ghost use Rattle.script_runner.specs.Checks.{CheckText, CheckCause, CheckedText, CheckedCause};
 ghost use Rattle.script_runner.specs.Outcomes.{ReadsAll};
 
-use crate::run::put_fault;
+use crate::program::put_fault;
 use crate::status::Status;
 use delf_io::{Sink, Source};
 use documents::{READ_LIMIT, ReadError, check_document, put_all, read_at_most};

@@ -6,6 +6,7 @@ ghost use Rattle.delf_disk.specs.Plain.{Plain, SameTelling, SameKind};
 ghost use Rattle.delf_model.specs.declared.script.Command.TheVariants.{Par};
 ghost use Rattle.delf_service.specs.Lanes.{IsStarved};
 ghost use Rattle.delf_model.specs.Payloads.{Payloads};
+ghost use Rattle.job_report.specs.Texts.{lane_text};
 ghost use Rattle.documents.specs.Names.{HasNames, HasNoLanes, IsNumberedBlock, IsNumberedCommand};
 ghost use Rattle.script_runner.specs.Blocks.{AreFed, HasOnlyFed, is_accepted, is_refused, replies_of, answer_line as answer_line_of, read_line, reply_line as reply_line_of, lane_lines as lane_lines_of, lanes_lines as lanes_lines_of, block_lines as block_lines_of};
 ghost use Rattle.script_runner.specs.Names.{AreNumberedOuts, AreNumberedReplies, IsNumberedReply, IsNumberedAnswer, IsNumberedAsked};
@@ -173,26 +174,35 @@ fn counts_with(before: (u32, u32), replies: &[LaneReply]) -> Result<(u32, u32), 
     ensures accepted { IfOk result (λ n. n.0 ≡ before.0 + length (filter is_accepted replies.now)) }
     ensures refused { IfOk result (λ n. n.1 ≡ before.1 + length (filter is_refused replies.now)) }
 {
-    let (mut accepted, mut refused) = before;
+    let mut so_far = before;
     for reply in replies {
-        (accepted, refused) = counted(accepted, refused, reply)?;
+        so_far = counted(so_far, reply)?;
     }
-    Ok((accepted, refused))
+    Ok(so_far)
 }
 
 // The same with one reply more.
-fn counted(accepted: u32, refused: u32, reply: &LaneReply) -> Result<(u32, u32), AllocError>
+fn counted(before: (u32, u32), reply: &LaneReply) -> Result<(u32, u32), AllocError>
     ensures fed { OnOk result (IsStarved reply.now → ⊥) }
-    ensures accepted { IfOk result (λ n. n.0 ≡ accepted + (if is_accepted reply.now then 1 else 0)) }
-    ensures refused { IfOk result (λ n. n.1 ≡ refused + (if is_refused reply.now then 1 else 0)) }
+    ensures accepted { IfOk result (λ n. n.0 ≡ before.0 + (if is_accepted reply.now then 1 else 0)) }
+    ensures refused { IfOk result (λ n. n.1 ≡ before.1 + (if is_refused reply.now then 1 else 0)) }
 {
-    let LaneReply::Submitted(answer) = reply else {
-        return Ok((accepted, refused));
-    };
-    match answer.reply {
-        Ok(_) => Ok((accepted.checked_add(1).ok_or(AllocError)?, refused)),
-        Err(Refusal::OutOfMemory) => Err(AllocError),
-        Err(_) => Ok((accepted, refused.checked_add(1).ok_or(AllocError)?)),
+    match reply {
+        LaneReply::Got { .. } => Ok(before),
+        LaneReply::Submitted(answer) => match answer.reply {
+            Ok(_) => Ok((one_more(before.0)?, before.1)),
+            Err(Refusal::OutOfMemory) => Err(AllocError),
+            Err(_) => Ok((before.0, one_more(before.1)?)),
+        },
+    }
+}
+
+fn one_more(count: u32) -> Result<u32, AllocError>
+    ensures { IfOk result (λ n. n ≡ count + 1) }
+{
+    match count.checked_add(1) {
+        Some(more) => Ok(more),
+        None => Err(AllocError),
     }
 }
 
@@ -234,11 +244,25 @@ fn lane_lines(
 {
     let mut text = Vec::new(alloc);
     for place in 0..replies.len() {
-        let line = reply_line(alloc, schema, &commands[place], &replies[place])?;
-        let line = lane_line(alloc, lane, line.as_slice())?;
+        let line = numbered_line(alloc, schema, lane, &commands[place], &replies[place])?;
         text.extend_from_slice(line.as_slice())?;
     }
     Ok(Bytes::from_vec(text))
+}
+
+// The line of a command of a lane, behind the number of the lane.
+fn numbered_line(
+    alloc: Global,
+    schema: &Schema,
+    lane: u8,
+    command: &LaneCommand,
+    reply: &LaneReply,
+) -> Result<Bytes, AllocError>
+    requires { IsNumberedReply schema.now command.now reply.now }
+    ensures { IfOk result (λ text. text ≡ lane_text lane (reply_line_of schema.now command.now reply.now)) }
+{
+    let line = reply_line(alloc, schema, command, reply)?;
+    lane_line(alloc, lane, line.as_slice())
 }
 
 // The line of a command of a lane.

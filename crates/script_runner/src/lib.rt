@@ -10,13 +10,13 @@ mod jobs;
 mod lanes;
 mod loading;
 mod names;
+mod program;
 mod readings;
-mod run;
 mod script;
 mod shows;
 mod status;
 mod store;
 
 pub use graph::{ProgramBook, ProgramGraph};
-pub use run::{run, run_plain};
+pub use program::{run, run_plain};
 pub use status::Status;

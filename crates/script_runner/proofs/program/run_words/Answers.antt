@@ -7,7 +7,7 @@ use Rattle.documents.specs.declared.words.Request.TheVariants.{Run, Check, Load}
 use Rattle.script_runner.specs.Outcomes.{RunCause, IsBad}
 use Rattle.documents.specs.Requests.{request_of}
 use Rattle.script_runner.proofs.Completes.{ends_well}
-use Rattle.script_runner.proofs.run.run_words.Goals as goal
+use Rattle.script_runner.proofs.program.run_words.Goals as goal
 
 pub returns-in-Some-Run-clause-complete : goal.returns-in-Some-Run-clause-complete
 returns-in-Some-Run-clause-complete g c = λ quiet.

@@ -3,8 +3,8 @@ use Rattle.delf_disk.specs.Plain.{Plain}
 use Rattle.script_runner.specs.Outcomes.{DocumentText}
 use Rattle.documents.specs.Requests.{moment_of_start}
 use Rattle.script_runner.proofs.Sources.{fault_cause_of, fault_text_of, bytes_text}
-use Rattle.script_runner.proofs.run.run_bytes.Goals.{in-At, in-Asked}
-use Rattle.script_runner.proofs.run.run_bytes.Goals as goal
+use Rattle.script_runner.proofs.program.run_bytes.Goals.{in-At, in-Asked}
+use Rattle.script_runner.proofs.program.run_bytes.Goals as goal
 
 pub returns-in-Err-clause-cause : goal.returns-in-Err-clause-cause
 returns-in-Err-clause-cause g c = fault_cause_of g.B.SERVED c.args.bytes.now c.in-Err.fault _ _ _ c.put_fault.result c.in-Err.ensures.fault c.put_fault.ensures.cause

@@ -3,7 +3,7 @@ use Rattle.delf_disk.specs.Plain.{Plain}
 use Rattle.script_runner.specs.Outcomes.{DocumentText}
 use Rattle.documents.specs.Requests.{moment_of_start}
 use Rattle.script_runner.proofs.Sources.{source_text, source_cause, source_orders, reads_all}
-use Rattle.script_runner.proofs.run.run_source.Goals as goal
+use Rattle.script_runner.proofs.program.run_source.Goals as goal
 
 pub returns-in-Ok-clause-cause : goal.returns-in-Ok-clause-cause
 returns-in-Ok-clause-cause g c =
