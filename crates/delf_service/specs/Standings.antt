@@ -1,10 +1,13 @@
 -- What is known of a shared book at one moment.
-use Rattle.std.specs.Prelude.{ℕ, [], Option, Some, None, false}
+use Rattle.std.specs.Prelude.{ℕ, Bool, [], Option, Some, None, false}
+use Rattle.delf_disk.specs.declared.area.Order.{Order}
+use Rattle.delf_disk.specs.declared.area.Order.TheVariants.{CutPower}
 use Rattle.delf_model.specs.declared.entry.Entry.{Entry}
 use Rattle.delf_model.specs.declared.entry.Tag.{Tag}
 use Rattle.delf_model.specs.State.{State}
 use Rattle.delf_model.specs.Step.{tag_of, after}
 use Rattle.delf_book.specs.Books.{Booked}
+use Rattle.delf_service.specs.declared.standing.DiskKind.{DiskKind}
 use Rattle.delf_service.specs.declared.standing.Standing.{Standing}
 
 abbrev pub seat_of_tag : Option Tag → Option ℕ
@@ -19,13 +22,17 @@ seat_of e = seat_of_tag (tag_of e.what)
 abbrev pub state_at : Standing → State
 state_at s = after s.key.rules s.history
 
+-- what kind of disk it is, with the last order that it was given and the number of its orders
+abbrev pub kind_of : {R : Type 0} → (R → Bool) → (R → Bool) → (R → Order) → (R → ℕ) → R → DiskKind
+kind_of told honest order orders rig = record { told = told rig; honest = honest rig; order = order rig; orders = orders rig }
+
 -- a book as it stands, where each call hands in this moment
-abbrev pub standing_of : {G R : Type 0} → (R → ℕ) → Booked G R → Option ℕ → Standing
-standing_of faults book moment = record {
+abbrev pub standing_of : {G R : Type 0} → (R → Bool) → (R → Bool) → (R → Order) → (R → ℕ) → (R → ℕ) → Booked G R → Option ℕ → Standing
+standing_of told honest order orders faults book moment = record {
   history = book.history;
   faults = faults book.rig;
   down = book.down;
-  key = record { rules = book.rules; moment = moment };
+  key = record { rules = book.rules; moment = moment; disk = kind_of told honest order orders book.rig };
 }
 
 -- any one
@@ -34,5 +41,5 @@ blank_standing = record {
   history = [];
   faults = 0;
   down = false;
-  key = record { rules = record { window = 0; objects = []; edges = [] }; moment = None };
+  key = record { rules = record { window = 0; objects = []; edges = [] }; moment = None; disk = record { told = false; honest = false; order = CutPower 0; orders = 0 } };
 }

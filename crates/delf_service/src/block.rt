@@ -1,6 +1,5 @@
 //! Lanes over a book, from the first seat to the last step.
 ghost use Rattle.std.specs.Prelude.{◌≡◌, ◌<◌, ◌≤◌, ◌+◌, ℕ, [], false, Some, IfOk, IsTrue, length, map, slice_get, slice_index_or, vec_capacity};
-ghost use Rattle.delf_disk.specs.Plain.{SameKind};
 ghost use Rattle.delf_model.specs.declared.script.LaneCommand.{LaneCommand as Commanded};
 ghost use Rattle.seat_lock.specs.Views.{IsRoot};
 ghost use Rattle.seat_lock.specs.Locks.{view, IsOf, start_of};
@@ -162,14 +161,14 @@ impl<G: GraphStore + Send, R: Rig + Send> Service<G, R> {
         room: Room<Held<G, R>>,
     ) -> (Book<G, R>, bool, Vec<LaneOut>)
         requires ours { IsOf self.lock root }
-        requires starts { Starts (standing_of R.Disk.faults (start_of self.lock).book (start_of self.lock).moment) (view root) }
+        requires starts { Starts (standing_of R.Disk.told R.Disk.honest R.Disk.order R.Disk.orders R.Disk.faults (start_of self.lock).book (start_of self.lock).moment) (view root) }
         requires few { (length lanes.now ≤ 16) × (length (start_of self.lock).book.history ≤ 500000) }
         requires moment { (start_of self.lock).moment ≡ Some now }
         requires numbers { (k i : ℕ) (c : Commanded) → slice_get (commands_at lanes.now k) i ≡ Some c → HasCommand (start_of self.lock).book.rules c }
         requires room { IsRoomFor lanes.now (λ l. l.items) (λ l. vec_capacity l) room.lists.items }
         requires none { (room.rows.items ≡ []) × (room.seats.items ≡ []) × (room.outs.items ≡ []) }
         requires fits { (length lanes.now ≤ vec_capacity room.rows) × (length lanes.now ≤ vec_capacity room.seats) × (length lanes.now ≤ vec_capacity room.outs) }
-        ensures { RanLanes (standing_of R.Disk.faults (start_of self.lock).book (start_of self.lock).moment) (standing_of R.Disk.faults result.0 (Some now)) now lanes.now result.2.items result.1 }
+        ensures { RanLanes (standing_of R.Disk.told R.Disk.honest R.Disk.order R.Disk.orders R.Disk.faults (start_of self.lock).book (start_of self.lock).moment) (standing_of R.Disk.told R.Disk.honest R.Disk.order R.Disk.orders R.Disk.faults result.0 (Some now)) now lanes.now result.2.items result.1 }
     {
         let Room {
             lists,
@@ -197,15 +196,15 @@ impl<G: GraphStore + Send, R: Rig + Send> Service<G, R> {
         room: Room<Held<G, R>>,
     ) -> (Book<G, R>, Result<Vec<LaneOut>, AllocError>)
         requires ours { IsOf self.lock root }
-        requires starts { Starts (standing_of R.Disk.faults (start_of self.lock).book (start_of self.lock).moment) (view root) }
+        requires starts { Starts (standing_of R.Disk.told R.Disk.honest R.Disk.order R.Disk.orders R.Disk.faults (start_of self.lock).book (start_of self.lock).moment) (view root) }
         requires few { (length lanes.now ≤ 16) × (length (start_of self.lock).book.history ≤ 500000) }
         requires moment { (start_of self.lock).moment ≡ Some now }
         requires numbers { (k i : ℕ) (c : Commanded) → slice_get (commands_at lanes.now k) i ≡ Some c → HasCommand (start_of self.lock).book.rules c }
         requires room { IsRoomFor lanes.now (λ l. l.items) (λ l. vec_capacity l) room.lists.items }
         requires none { (room.rows.items ≡ []) × (room.seats.items ≡ []) × (room.outs.items ≡ []) }
         requires fits { (length lanes.now ≤ vec_capacity room.rows) × (length lanes.now ≤ vec_capacity room.seats) × (length lanes.now ≤ vec_capacity room.outs) }
-        ensures kept { HasLanes (standing_of R.Disk.faults (start_of self.lock).book (start_of self.lock).moment) (standing_of R.Disk.faults result.0 (Some now)) (length lanes.now) }
-        ensures block { IfOk result.1 (λ outs. IsBlock (standing_of R.Disk.faults (start_of self.lock).book (start_of self.lock).moment) (standing_of R.Disk.faults result.0 (Some now)) now lanes.now outs.items) }
+        ensures kept { HasLanes (standing_of R.Disk.told R.Disk.honest R.Disk.order R.Disk.orders R.Disk.faults (start_of self.lock).book (start_of self.lock).moment) (standing_of R.Disk.told R.Disk.honest R.Disk.order R.Disk.orders R.Disk.faults result.0 (Some now)) (length lanes.now) }
+        ensures block { IfOk result.1 (λ outs. IsBlock (standing_of R.Disk.told R.Disk.honest R.Disk.order R.Disk.orders R.Disk.faults (start_of self.lock).book (start_of self.lock).moment) (standing_of R.Disk.told R.Disk.honest R.Disk.order R.Disk.orders R.Disk.faults result.0 (Some now)) now lanes.now outs.items) }
     {
         let (book, fed, outs) = self.run_and_close(rt, alloc, root, now, lanes, gate, room);
         let mut held = Held {
@@ -242,9 +241,8 @@ pub fn run_lanes<W: Threads + Wait + Sync, G: GraphStore + Send, R: Rig + Send, 
 ) -> (Book<G, R>, Result<Vec<LaneOut>, AllocError>)
     requires few { length lanes.now ≤ 16 }
     requires numbers { (k i : ℕ) (c : Commanded) → slice_get (commands_at lanes.now k) i ≡ Some c → HasCommand book.rules c }
-    ensures kept { HasLanes (standing_of R.Disk.faults book (Some now)) (standing_of R.Disk.faults result.0 (Some now)) (length lanes.now) }
-    ensures kind { SameKind R.Disk.told R.Disk.honest R.Disk.order R.Disk.orders book.rig result.0.rig }
-    ensures block { IfOk result.1 (λ outs. IsBlock (standing_of R.Disk.faults book (Some now)) (standing_of R.Disk.faults result.0 (Some now)) now lanes.now outs.items) }
+    ensures kept { HasLanes (standing_of R.Disk.told R.Disk.honest R.Disk.order R.Disk.orders R.Disk.faults book (Some now)) (standing_of R.Disk.told R.Disk.honest R.Disk.order R.Disk.orders R.Disk.faults result.0 (Some now)) (length lanes.now) }
+    ensures block { IfOk result.1 (λ outs. IsBlock (standing_of R.Disk.told R.Disk.honest R.Disk.order R.Disk.orders R.Disk.faults book (Some now)) (standing_of R.Disk.told R.Disk.honest R.Disk.order R.Disk.orders R.Disk.faults result.0 (Some now)) now lanes.now outs.items) }
 {
     let _len = book.len();
     let Ok(room) = room_for(alloc, lanes) else {

@@ -29,7 +29,7 @@ impl<G: GraphStore, R: Rig> Counted for Held<G, R> {
 
     type Entry = Entry;
 
-    ghost state = { λ h. standing_of R.Disk.faults h.book h.moment };
+    ghost state = { λ h. standing_of R.Disk.told R.Disk.honest R.Disk.order R.Disk.orders R.Disk.faults h.book h.moment };
 
     ghost blank = { blank_standing };
 
@@ -55,7 +55,7 @@ impl<G: GraphStore, R: Rig> Held<G, R> {
     pub(crate) fn submit(&mut self, now: Moment, seat: u32, call: &Call) -> Answer
         requires numbers { HasNumbers self.old.book.rules call.now }
         requires seat { seat ≤ 64 * (length self.old.book.history + 1) }
-        ensures { CallsIn (standing_of R.Disk.faults self.old.book self.old.moment) (standing_of R.Disk.faults self.new.book self.new.moment) now seat call.now result }
+        ensures { CallsIn (standing_of R.Disk.told R.Disk.honest R.Disk.order R.Disk.orders R.Disk.faults self.old.book self.old.moment) (standing_of R.Disk.told R.Disk.honest R.Disk.order R.Disk.orders R.Disk.faults self.new.book self.new.moment) now seat call.now result }
     {
         let at = self.book.len();
         let reply = self.book.call(now, seat, call);
@@ -64,7 +64,7 @@ impl<G: GraphStore, R: Rig> Held<G, R> {
 
     // The object with its owner, and its payload, at the front of the bytes.
     pub(crate) fn ask(&mut self, id: ObjectId) -> (Asked, [u8; LIMIT])
-        ensures { AsksIn (standing_of R.Disk.faults self.old.book self.old.moment) (standing_of R.Disk.faults self.new.book self.new.moment) id result.0 }
+        ensures { AsksIn (standing_of R.Disk.told R.Disk.honest R.Disk.order R.Disk.orders R.Disk.faults self.old.book self.old.moment) (standing_of R.Disk.told R.Disk.honest R.Disk.order R.Disk.orders R.Disk.faults self.new.book self.new.moment) id result.0 }
     {
         let mut bytes = [0; LIMIT];
         let at = self.book.len();
@@ -78,7 +78,7 @@ impl<G: GraphStore, R: Rig> Held<G, R> {
 
     // A step of a worker.
     pub(crate) fn work(&mut self, now: Moment) -> Result<Turned, StepFault>
-        ensures { TurnsIn (standing_of R.Disk.faults self.old.book self.old.moment) (standing_of R.Disk.faults self.new.book self.new.moment) now result }
+        ensures { TurnsIn (standing_of R.Disk.told R.Disk.honest R.Disk.order R.Disk.orders R.Disk.faults self.old.book self.old.moment) (standing_of R.Disk.told R.Disk.honest R.Disk.order R.Disk.orders R.Disk.faults self.new.book self.new.moment) now result }
     {
         let _len = self.book.len();
         match self.book.work(now) {
@@ -92,8 +92,8 @@ impl<G: GraphStore, R: Rig> Held<G, R> {
     pub(crate) fn finish(&mut self, now: Moment) -> Result<(), AllocError>
         requires moment { self.old.moment ≡ Some now }
         ensures moment { self.new.moment ≡ self.old.moment }
-        ensures behind { IsBehind (standing_of R.Disk.faults self.old.book self.old.moment) (standing_of R.Disk.faults self.new.book self.new.moment) }
-        ensures rests { OnOk result (Rests (standing_of R.Disk.faults self.new.book self.new.moment) now) }
+        ensures behind { IsBehind (standing_of R.Disk.told R.Disk.honest R.Disk.order R.Disk.orders R.Disk.faults self.old.book self.old.moment) (standing_of R.Disk.told R.Disk.honest R.Disk.order R.Disk.orders R.Disk.faults self.new.book self.new.moment) }
+        ensures rests { OnOk result (Rests (standing_of R.Disk.told R.Disk.honest R.Disk.order R.Disk.orders R.Disk.faults self.new.book self.new.moment) now) }
     {
         loop {
             let outcome = self.work(now);

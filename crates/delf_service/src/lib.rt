@@ -23,4 +23,4 @@ pub use held::Held;
 pub use replies::{LaneOut, LaneReply};
 pub use rows::Row;
 pub use service::{Seat, Service};
-pub use standing::{Key, Standing};
+pub use standing::{DiskKind, Key, Standing};

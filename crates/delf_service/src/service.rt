@@ -34,8 +34,8 @@ impl<G: GraphStore, R: Rig> Service<G, R> {
     /// A service over the book, and its root seat, which has seen the book. Its number is the first one above 0 and
     /// above each seat of the history. An `Err` is want of memory, and hands the book back.
     pub fn start(alloc: Global, book: Book<G, R>) -> Result<(Service<G, R>, Seat<G, R>), Book<G, R>>
-        ensures ok { IfOk result (λ r. IsOf r.0.lock r.1 × Starts (standing_of R.Disk.faults book None) (view r.1)) }
-        ensures begun { IfOk result (λ r. standing_of R.Disk.faults (start_of r.0.lock).book (start_of r.0.lock).moment ≡ standing_of R.Disk.faults book None) }
+        ensures ok { IfOk result (λ r. IsOf r.0.lock r.1 × Starts (standing_of R.Disk.told R.Disk.honest R.Disk.order R.Disk.orders R.Disk.faults book None) (view r.1)) }
+        ensures begun { IfOk result (λ r. standing_of R.Disk.told R.Disk.honest R.Disk.order R.Disk.orders R.Disk.faults (start_of r.0.lock).book (start_of r.0.lock).moment ≡ standing_of R.Disk.told R.Disk.honest R.Disk.order R.Disk.orders R.Disk.faults book None) }
         ensures err { IfErr result (λ b. b ≡ book) }
     {
         Service::with_moment(alloc, book, None)
@@ -47,8 +47,8 @@ impl<G: GraphStore, R: Rig> Service<G, R> {
         book: Book<G, R>,
         moment: Option<Moment>,
     ) -> Result<(Service<G, R>, Seat<G, R>), Book<G, R>>
-        ensures ok { IfOk result (λ r. IsOf r.0.lock r.1 × Starts (standing_of R.Disk.faults book moment) (view r.1)) }
-        ensures begun { IfOk result (λ r. standing_of R.Disk.faults (start_of r.0.lock).book (start_of r.0.lock).moment ≡ standing_of R.Disk.faults book moment) }
+        ensures ok { IfOk result (λ r. IsOf r.0.lock r.1 × Starts (standing_of R.Disk.told R.Disk.honest R.Disk.order R.Disk.orders R.Disk.faults book moment) (view r.1)) }
+        ensures begun { IfOk result (λ r. standing_of R.Disk.told R.Disk.honest R.Disk.order R.Disk.orders R.Disk.faults (start_of r.0.lock).book (start_of r.0.lock).moment ≡ standing_of R.Disk.told R.Disk.honest R.Disk.order R.Disk.orders R.Disk.faults book moment) }
         ensures err { IfErr result (λ b. b ≡ book) }
     {
         let _len = book.len();
@@ -87,7 +87,7 @@ impl<G: GraphStore, R: Rig> Service<G, R> {
             seat,
             |held: &mut Held<G, R>| -> Answer
                 requires { HasNumbers held.old.book.rules call.now × (number ≤ 64 * (length held.old.book.history + 1)) }
-                ensures { CallsIn (standing_of R.Disk.faults held.old.book held.old.moment) (standing_of R.Disk.faults held.new.book held.new.moment) now number call.entry.now result }
+                ensures { CallsIn (standing_of R.Disk.told R.Disk.honest R.Disk.order R.Disk.orders R.Disk.faults held.old.book held.old.moment) (standing_of R.Disk.told R.Disk.honest R.Disk.order R.Disk.orders R.Disk.faults held.new.book held.new.moment) now number call.entry.now result }
             { held.submit(now, number, call) },
         )
     }
@@ -105,7 +105,7 @@ impl<G: GraphStore, R: Rig> Service<G, R> {
             rt,
             seat,
             |held: &mut Held<G, R>| -> (Asked, [u8; LIMIT])
-                ensures asked { AsksIn (standing_of R.Disk.faults held.old.book held.old.moment) (standing_of R.Disk.faults held.new.book held.new.moment) id result.0 }
+                ensures asked { AsksIn (standing_of R.Disk.told R.Disk.honest R.Disk.order R.Disk.orders R.Disk.faults held.old.book held.old.moment) (standing_of R.Disk.told R.Disk.honest R.Disk.order R.Disk.orders R.Disk.faults held.new.book held.new.moment) id result.0 }
                 ensures size { length result.1 ≡ LIMIT }
             { held.ask(id) },
         );
@@ -132,7 +132,7 @@ impl<G: GraphStore, R: Rig> Service<G, R> {
             rt,
             seat,
             |held: &mut Held<G, R>| -> Result<Turned, StepFault>
-                ensures { TurnsIn (standing_of R.Disk.faults held.old.book held.old.moment) (standing_of R.Disk.faults held.new.book held.new.moment) now result }
+                ensures { TurnsIn (standing_of R.Disk.told R.Disk.honest R.Disk.order R.Disk.orders R.Disk.faults held.old.book held.old.moment) (standing_of R.Disk.told R.Disk.honest R.Disk.order R.Disk.orders R.Disk.faults held.new.book held.new.moment) now result }
             { held.work(now) },
         );
         if let Ok(Turned::Stepped { position }) = outcome {
@@ -148,7 +148,7 @@ impl<G: GraphStore, R: Rig> Service<G, R> {
         requires each { (k : ℕ) (s : _) → slice_get seats.items k ≡ Some s → IsOf self.lock s }
         requires root { IsRoot (view root) }
         requires all { out_of (view root) ≡ length seats.items }
-        ensures { (moment : Option ℕ) × Closed (standing_of R.Disk.faults (start_of self.lock).book (start_of self.lock).moment) (view root) (map (λ s. view s) seats.items) (standing_of R.Disk.faults result moment) }
+        ensures { (moment : Option ℕ) × Closed (standing_of R.Disk.told R.Disk.honest R.Disk.order R.Disk.orders R.Disk.faults (start_of self.lock).book (start_of self.lock).moment) (view root) (map (λ s. view s) seats.items) (standing_of R.Disk.told R.Disk.honest R.Disk.order R.Disk.orders R.Disk.faults result moment) }
     {
         let Service { lock } = self;
         let root = join_all(&lock, root, seats);

@@ -4,7 +4,8 @@ use Rattle.std.specs.Prelude.{IfOk, IfErr, IfSome, IsOkAnd, slice_get}
 use Rattle.std.specs.List.{All}
 use Rattle.std.proofs.lemmas.Option.{slice_get_within, slice_get-get_or, slice_get_past}
 use Rattle.delf_disk.specs.Areas.{Areas}
-use Rattle.delf_disk.specs.Causes.{Rose}
+use Rattle.delf_disk.specs.declared.area.Order.{Order}
+use Rattle.delf_disk.specs.Plain.{SameKind}
 use Rattle.delf_model.specs.declared.schema.Schema.{Schema}
 use Rattle.delf_model.specs.declared.call.Call.{Call}
 use Rattle.delf_model.specs.declared.call.Call.TheVariants as call
@@ -34,13 +35,14 @@ use Rattle.delf_service.specs.declared.answers.Asked.{Asked}
 use Rattle.delf_service.specs.declared.replies.LaneOut.{LaneOut}
 use Rattle.delf_service.specs.declared.replies.LaneReply.{LaneReply}
 use Rattle.delf_service.specs.declared.replies.LaneReply.TheVariants.{Submitted, Got}
+use Rattle.delf_service.specs.declared.standing.DiskKind.{DiskKind}
 use Rattle.delf_service.specs.declared.standing.Standing.{Standing}
 use Rattle.delf_service.specs.declared.standing.Key.{Key}
 use Rattle.seat_lock.specs.Views.{made_by}
 use Rattle.delf_service.specs.Blocks.{HasLanes, IsBlock, lane_seat}
 use Rattle.delf_service.specs.Lanes.{HasCommand, LaneTold, Tells, TellsAnswer, TellsAsked, state_before}
 use Rattle.delf_service.specs.Rows.{commands_in, commands_at}
-use Rattle.delf_service.specs.Standings.{seat_of, standing_of}
+use Rattle.delf_service.specs.Standings.{seat_of, kind_of, standing_of}
 use Rattle.documents.specs.Names.{HasNames, IsNumberedCall, IsNumberedLaneCommand, IsNumberedLane, IsNumberedBlock}
 use Rattle.script_runner.specs.Blocks.{AreFed, RunsLanes, LeavesLanes, block_lines}
 use Rattle.script_runner.specs.Names.{IsNamed, IsNumberedRefusal, IsNumberedAnswer, IsNumberedAsked, IsNumberedReply, AreNumberedReplies, AreNumberedOuts}
@@ -173,20 +175,39 @@ outs_few first final rules workers now lanes outs numbered block = omega (arith,
 
 -- the world that a block leads to
 
-module _ {G R : Type 0} (seen : R → Areas) (may_leave : R → Areas → Type 0) (faults : R → ℕ) (schema : Schema) (quiet : Bool) (workers turns : ℕ) (lanes : List Lane)
+module _ {G R : Type 0} (told honest : R → Bool) (order : R → Order) (orders : R → ℕ) (seen : R → Areas) (may_leave : R → Areas → Type 0) (faults : R → ℕ) (schema : Schema) (quiet : Bool) (workers turns : ℕ) (lanes : List Lane)
     (old now : Booked G R) (clock : ℕ) where
   abbrev first : Standing
-  first = standing_of faults old (Some clock)
+  first = standing_of told honest order orders faults old (Some clock)
 
   abbrev final : Standing
-  final = standing_of faults now (Some clock)
+  final = standing_of told honest order orders faults now (Some clock)
+
+  -- both worlds over a disk of one kind: that of the first
+  abbrev disk : DiskKind
+  disk = kind_of told honest order orders old.rig
+
+  same_disk : (P : DiskKind → Type 0) → HasLanes first final (length lanes) → P (kind_of told honest order orders now.rig) → P disk
+  same_disk P has holds = subst P (ap (λ (k : Key). k.disk) has.later.key) holds
+
+  abbrev final_on : DiskKind → Standing
+  final_on d = record final { key = record { rules = now.rules; moment = Some clock; disk = d } }
 
   pub block_carried : (e : Payloads) (outs : List LaneOut) (text : List ℕ) → old.down ≡ false → HasLanes first final (length lanes) → IsBlock first final clock lanes outs →
       AreFed outs → text ≡ block_lines schema quiet lanes outs (length now.history) now.down → (now.down ≡ false → now.beside ≡ None) → Holds seen may_leave now →
       Carried may_leave faults schema (Par quiet workers turns lanes) (world_of old clock e) (faults old.rig) now clock text
   block_carried e outs text up has block fed said alone holds = record {
     payloads = holds.payloads;
-    serves = serial.Blocks.Runs (record { up = up; outs = outs; has = has; block = block; fed = fed; clock = refl; text_is = said });
+    serves = serial.Blocks.Runs (record {
+      up = up;
+      disk = disk;
+      outs = outs;
+      has = same_disk (λ d. HasLanes first (final_on d) (length lanes)) has has;
+      block = same_disk (λ d. IsBlock first (final_on d) clock lanes outs) has block;
+      fed = fed;
+      clock = refl;
+      text_is = said;
+    });
     stands = record { alone = alone; rests = holds.rests; held = λ down. holds.stands };
   }
 
@@ -194,12 +215,27 @@ module _ {G R : Type 0} (seen : R → Areas) (may_leave : R → Areas → Type 0
       HaltedAt (Par quiet workers turns lanes) (world_of old clock e) (may_leave now.rig)
   block_halts e up has holds = record {
     next = world_of now clock holds.payloads;
-    halts = inr (record { up = up; before = faults old.rig; now = faults now.rig; has = has; clock = refl });
+    halts = inr (record {
+      up = up;
+      disk = disk;
+      before = faults old.rig;
+      now = faults now.rig;
+      has = same_disk (λ d. HasLanes first (final_on d) (length lanes)) has has;
+      clock = refl;
+    });
     held = holds.stands;
   }
 
   pub block_falls : HasLanes first final (length lanes) → Falls faults old now
   block_falls has = record { later = has.later.faults; fell = has.later.cause }
+
+  pub block_kind : HasLanes first final (length lanes) → SameKind told honest order orders old.rig now.rig
+  block_kind has = record {
+    tells = ap (λ (k : Key). k.disk.told) has.later.key;
+    keeps_word = ap (λ (k : Key). k.disk.honest) has.later.key;
+    last_order = ap (λ (k : Key). k.disk.order) has.later.key;
+    order_count = ap (λ (k : Key). k.disk.orders) has.later.key;
+  }
 
   -- a book that is down runs no lanes
 

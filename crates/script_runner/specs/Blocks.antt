@@ -16,6 +16,7 @@ use Rattle.delf_service.specs.declared.answers.Asked.{Asked}
 use Rattle.delf_service.specs.declared.replies.LaneOut.{LaneOut}
 use Rattle.delf_service.specs.declared.replies.LaneReply.{LaneReply}
 use Rattle.delf_service.specs.declared.replies.LaneReply.TheVariants.{Submitted, Got}
+use Rattle.delf_service.specs.declared.standing.DiskKind.{DiskKind}
 use Rattle.delf_service.specs.declared.standing.Standing.{Standing}
 use Rattle.delf_service.specs.Blocks.{HasLanes, IsBlock}
 use Rattle.delf_service.specs.Lanes.{IsStarved}
@@ -24,13 +25,13 @@ use Rattle.documents.specs.Names.{kind_name}
 use Rattle.script_runner.specs.Lines.{receipt_text, refusal_name}
 use Rattle.script_runner.specs.Worlds.{World}
 
--- a world as a shared book stands, with the count of its disk's faults, where each call is made at the clock's moment
-abbrev pub standing_in : World → ℕ → Standing
-standing_in w faults = record {
+-- a world as a shared book stands over a disk of this kind, with the count of its faults, where each call is made at the clock's moment
+abbrev pub standing_in : World → DiskKind → ℕ → Standing
+standing_in w disk faults = record {
   history = w.history;
   faults = faults;
   down = w.down;
-  key = record { rules = w.rules; moment = Some w.clock };
+  key = record { rules = w.rules; moment = Some w.clock; disk = disk };
 }
 
 -- the line of a reply, at the length of the history that it found
@@ -100,9 +101,10 @@ AreFed outs = (place : ℕ) (out : LaneOut) → slice_get outs place ≡ Some ou
 -- is left, or the first is one that would put back a damaged item; it is down only where the count of faults rose.
 pub record RunsLanes (schema : Schema) (w : World) (quiet : Bool) (lanes : List Lane) (before now : ℕ) (text : List ℕ) (next : World) : Type 0 where
   pub up : w.down ≡ false
+  pub disk : DiskKind
   pub outs : List LaneOut
-  pub has : HasLanes (standing_in w before) (standing_in next now) (length lanes)
-  pub block : IsBlock (standing_in w before) (standing_in next now) w.clock lanes outs
+  pub has : HasLanes (standing_in w disk before) (standing_in next disk now) (length lanes)
+  pub block : IsBlock (standing_in w disk before) (standing_in next disk now) w.clock lanes outs
   pub fed : AreFed outs
   pub clock : next.clock ≡ w.clock
   pub text_is : text ≡ block_lines schema quiet lanes outs (length next.history) next.down
@@ -110,7 +112,8 @@ pub record RunsLanes (schema : Schema) (w : World) (quiet : Bool) (lanes : List 
 -- where want of memory may leave a block: with some of its entries
 pub record LeavesLanes (w : World) (lanes : List Lane) (next : World) : Type 0 where
   pub up : w.down ≡ false
+  pub disk : DiskKind
   pub before : ℕ
   pub now : ℕ
-  pub has : HasLanes (standing_in w before) (standing_in next now) (length lanes)
+  pub has : HasLanes (standing_in w disk before) (standing_in next disk now) (length lanes)
   pub clock : next.clock ≡ w.clock

@@ -1,6 +1,5 @@
 //! What runs the lanes of a block: nothing, where blocks are not served, or threads.
 ghost use Rattle.std.specs.Prelude.{◌≡◌, ◌≤◌, ℕ, true, false, Some, IfOk, length, slice_get};
-ghost use Rattle.delf_disk.specs.Plain.{SameKind};
 ghost use Rattle.delf_model.specs.declared.script.LaneCommand.{LaneCommand as Commanded};
 ghost use Rattle.delf_service.specs.Blocks.{HasLanes, IsBlock};
 ghost use Rattle.delf_service.specs.Lanes.{HasCommand};
@@ -33,9 +32,8 @@ pub(crate) trait Blocks<R: Rig> {
         requires served { Self.SERVED ≡ true }
         requires few { (length lanes.now ≤ 16) × (workers ≤ 16) }
         requires numbers { (k i : ℕ) (c : Commanded) → slice_get (commands_at lanes.now k) i ≡ Some c → HasCommand book.rules c }
-        ensures kept { HasLanes (standing_of R.Disk.faults book (Some now)) (standing_of R.Disk.faults result.0 (Some now)) (length lanes.now) }
-        ensures kind { SameKind R.Disk.told R.Disk.honest R.Disk.order R.Disk.orders book.rig result.0.rig }
-        ensures block { IfOk result.1 (λ outs. IsBlock (standing_of R.Disk.faults book (Some now)) (standing_of R.Disk.faults result.0 (Some now)) now lanes.now outs.items) };
+        ensures kept { HasLanes (standing_of R.Disk.told R.Disk.honest R.Disk.order R.Disk.orders R.Disk.faults book (Some now)) (standing_of R.Disk.told R.Disk.honest R.Disk.order R.Disk.orders R.Disk.faults result.0 (Some now)) (length lanes.now) }
+        ensures block { IfOk result.1 (λ outs. IsBlock (standing_of R.Disk.told R.Disk.honest R.Disk.order R.Disk.orders R.Disk.faults book (Some now)) (standing_of R.Disk.told R.Disk.honest R.Disk.order R.Disk.orders R.Disk.faults result.0 (Some now)) now lanes.now outs.items) };
 }
 
 /// No script has blocks.
@@ -57,9 +55,8 @@ impl<R: Rig> Blocks<R> for NoBlocks {
         requires served { false ≡ true }
         requires few { (length lanes.now ≤ 16) × (workers ≤ 16) }
         requires numbers { (k i : ℕ) (c : Commanded) → slice_get (commands_at lanes.now k) i ≡ Some c → HasCommand book.rules c }
-        ensures kept { HasLanes (standing_of R.Disk.faults book (Some now)) (standing_of R.Disk.faults result.0 (Some now)) (length lanes.now) }
-        ensures kind { SameKind R.Disk.told R.Disk.honest R.Disk.order R.Disk.orders book.rig result.0.rig }
-        ensures block { IfOk result.1 (λ outs. IsBlock (standing_of R.Disk.faults book (Some now)) (standing_of R.Disk.faults result.0 (Some now)) now lanes.now outs.items) }
+        ensures kept { HasLanes (standing_of R.Disk.told R.Disk.honest R.Disk.order R.Disk.orders R.Disk.faults book (Some now)) (standing_of R.Disk.told R.Disk.honest R.Disk.order R.Disk.orders R.Disk.faults result.0 (Some now)) (length lanes.now) }
+        ensures block { IfOk result.1 (λ outs. IsBlock (standing_of R.Disk.told R.Disk.honest R.Disk.order R.Disk.orders R.Disk.faults book (Some now)) (standing_of R.Disk.told R.Disk.honest R.Disk.order R.Disk.orders R.Disk.faults result.0 (Some now)) now lanes.now outs.items) }
     {
         unreachable!()
     }
@@ -86,9 +83,8 @@ impl<'a, W: Threads + Wait + Sync, Q: Gate + Sync, R: Rig + Send> Blocks<R> for 
     ) -> (ProgramBook<R>, Result<Vec<LaneOut>, AllocError>)
         requires few { (length lanes.now ≤ 16) × (_workers ≤ 16) }
         requires numbers { (k i : ℕ) (c : Commanded) → slice_get (commands_at lanes.now k) i ≡ Some c → HasCommand book.rules c }
-        ensures kept { HasLanes (standing_of R.Disk.faults book (Some now)) (standing_of R.Disk.faults result.0 (Some now)) (length lanes.now) }
-        ensures kind { SameKind R.Disk.told R.Disk.honest R.Disk.order R.Disk.orders book.rig result.0.rig }
-        ensures block { IfOk result.1 (λ outs. IsBlock (standing_of R.Disk.faults book (Some now)) (standing_of R.Disk.faults result.0 (Some now)) now lanes.now outs.items) }
+        ensures kept { HasLanes (standing_of R.Disk.told R.Disk.honest R.Disk.order R.Disk.orders R.Disk.faults book (Some now)) (standing_of R.Disk.told R.Disk.honest R.Disk.order R.Disk.orders R.Disk.faults result.0 (Some now)) (length lanes.now) }
+        ensures block { IfOk result.1 (λ outs. IsBlock (standing_of R.Disk.told R.Disk.honest R.Disk.order R.Disk.orders R.Disk.faults book (Some now)) (standing_of R.Disk.told R.Disk.honest R.Disk.order R.Disk.orders R.Disk.faults result.0 (Some now)) now lanes.now outs.items) }
     {
         run_lanes(self.rt, alloc, book, now, lanes, self.gate)
     }

@@ -1,7 +1,8 @@
 use Rattle.std.proofs.Common.{arith}
 use Rattle.schema_lang.specs.Views.{part_view}
 use Rattle.documents.specs.Documents.{HasPart}
-use Rattle.documents.proofs.Documents.{told_part, told_check, told_script}
+use Rattle.documents.proofs.Bounded.{bounded}
+use Rattle.documents.proofs.Documents.{has_names, numbered_commands, told_part, told_check, told_script}
 use Rattle.documents.proofs.Unblocked.{unblocked}
 use Rattle.documents.proofs.document.read_document.Goals as goal
 
@@ -21,3 +22,8 @@ returns-in-Err-parse_script-clause-fault c =
 
 pub returns-in-Ok-parse_script-clause-lanes : goal.returns-in-Ok-parse_script-clause-lanes
 returns-in-Ok-parse_script-clause-lanes c without = unblocked _ c.args.blocks _ _ c.in-Ok-parse_script.commands without c.in-Ok-parse_script.ensures.script
+
+pub returns-in-Ok-parse_script-clause-numbered : goal.returns-in-Ok-parse_script-clause-numbered
+returns-in-Ok-parse_script-clause-numbered c =
+    numbered_commands c.in-Ok.part.schema c.in-Ok-judge.rules c.in-Ok-parse_script.commands (has_names c.in-Ok.part.schema c.in-Ok-judge.rules c.in-Ok-judge.ensures.value)
+    c.in-Ok-parse_script.ensures.names (bounded c.in-Ok.part.schema c.args.blocks _ _ c.in-Ok-parse_script.commands c.in-Ok-parse_script.ensures.script)

@@ -6,33 +6,33 @@ use Rattle.delf_service.proofs.service.Service.run_block.Goals as goal
 
 pub returns-then-not-fed-clause-kept : goal.returns-then-not-fed-clause-kept
 returns-then-not-fed-clause-kept g c =
-    let first = standing_of g.R.Disk.faults (start_of c.args.self.lock).book (start_of c.args.self.lock).moment in
-    let last = standing_of g.R.Disk.faults c.run_and_close-book.result.0 (Some c.args.now) in
-    let final = standing_of g.R.Disk.faults c.finish-finished.new.self.book (Some c.args.now) in
-    has_behind first last final (moved_moment (λ m. standing_of g.R.Disk.faults c.finish-finished.new.self.book m) last c.finish-finished.new.self.moment (Some c.args.now) c.finish-finished.ensures.moment c.finish-finished.ensures.behind)
+    let first = standing_of g.R.Disk.told g.R.Disk.honest g.R.Disk.order g.R.Disk.orders g.R.Disk.faults (start_of c.args.self.lock).book (start_of c.args.self.lock).moment in
+    let last = standing_of g.R.Disk.told g.R.Disk.honest g.R.Disk.order g.R.Disk.orders g.R.Disk.faults c.run_and_close-book.result.0 (Some c.args.now) in
+    let final = standing_of g.R.Disk.told g.R.Disk.honest g.R.Disk.order g.R.Disk.orders g.R.Disk.faults c.finish-finished.new.self.book (Some c.args.now) in
+    has_behind first last final (moved_moment (λ m. standing_of g.R.Disk.told g.R.Disk.honest g.R.Disk.order g.R.Disk.orders g.R.Disk.faults c.finish-finished.new.self.book m) last c.finish-finished.new.self.moment (Some c.args.now) c.finish-finished.ensures.moment c.finish-finished.ensures.behind)
     (length c.args.lanes.now) c.run_and_close-book.ensures.has
 
 pub returns-in-Ok-clause-kept : goal.returns-in-Ok-clause-kept
 returns-in-Ok-clause-kept g c =
-    let first = standing_of g.R.Disk.faults (start_of c.args.self.lock).book (start_of c.args.self.lock).moment in
-    let last = standing_of g.R.Disk.faults c.run_and_close-book.result.0 (Some c.args.now) in
-    let final = standing_of g.R.Disk.faults c.finish-finished.new.self.book (Some c.args.now) in
-    has_behind first last final (moved_moment (λ m. standing_of g.R.Disk.faults c.finish-finished.new.self.book m) last c.finish-finished.new.self.moment (Some c.args.now) c.finish-finished.ensures.moment c.finish-finished.ensures.behind)
+    let first = standing_of g.R.Disk.told g.R.Disk.honest g.R.Disk.order g.R.Disk.orders g.R.Disk.faults (start_of c.args.self.lock).book (start_of c.args.self.lock).moment in
+    let last = standing_of g.R.Disk.told g.R.Disk.honest g.R.Disk.order g.R.Disk.orders g.R.Disk.faults c.run_and_close-book.result.0 (Some c.args.now) in
+    let final = standing_of g.R.Disk.told g.R.Disk.honest g.R.Disk.order g.R.Disk.orders g.R.Disk.faults c.finish-finished.new.self.book (Some c.args.now) in
+    has_behind first last final (moved_moment (λ m. standing_of g.R.Disk.told g.R.Disk.honest g.R.Disk.order g.R.Disk.orders g.R.Disk.faults c.finish-finished.new.self.book m) last c.finish-finished.new.self.moment (Some c.args.now) c.finish-finished.ensures.moment c.finish-finished.ensures.behind)
     (length c.args.lanes.now) c.run_and_close-book.ensures.has
 
 pub returns-in-Err-clause-kept : goal.returns-in-Err-clause-kept
 returns-in-Err-clause-kept g c =
-    let first = standing_of g.R.Disk.faults (start_of c.args.self.lock).book (start_of c.args.self.lock).moment in
-    let last = standing_of g.R.Disk.faults c.run_and_close-book.result.0 (Some c.args.now) in
-    let final = standing_of g.R.Disk.faults c.finish-finished.new.self.book (Some c.args.now) in
-    has_behind first last final (moved_moment (λ m. standing_of g.R.Disk.faults c.finish-finished.new.self.book m) last c.finish-finished.new.self.moment (Some c.args.now) c.finish-finished.ensures.moment c.finish-finished.ensures.behind)
+    let first = standing_of g.R.Disk.told g.R.Disk.honest g.R.Disk.order g.R.Disk.orders g.R.Disk.faults (start_of c.args.self.lock).book (start_of c.args.self.lock).moment in
+    let last = standing_of g.R.Disk.told g.R.Disk.honest g.R.Disk.order g.R.Disk.orders g.R.Disk.faults c.run_and_close-book.result.0 (Some c.args.now) in
+    let final = standing_of g.R.Disk.told g.R.Disk.honest g.R.Disk.order g.R.Disk.orders g.R.Disk.faults c.finish-finished.new.self.book (Some c.args.now) in
+    has_behind first last final (moved_moment (λ m. standing_of g.R.Disk.told g.R.Disk.honest g.R.Disk.order g.R.Disk.orders g.R.Disk.faults c.finish-finished.new.self.book m) last c.finish-finished.new.self.moment (Some c.args.now) c.finish-finished.ensures.moment c.finish-finished.ensures.behind)
     (length c.args.lanes.now) c.run_and_close-book.ensures.has
 
 pub returns-in-Ok-clause-block : goal.returns-in-Ok-clause-block
 returns-in-Ok-clause-block g c =
-    let first = standing_of g.R.Disk.faults (start_of c.args.self.lock).book (start_of c.args.self.lock).moment in
-    let last = standing_of g.R.Disk.faults c.run_and_close-book.result.0 (Some c.args.now) in
-    let final = standing_of g.R.Disk.faults c.finish-finished.new.self.book (Some c.args.now) in
-    block_behind first last final (moved_moment (λ m. standing_of g.R.Disk.faults c.finish-finished.new.self.book m) last c.finish-finished.new.self.moment (Some c.args.now) c.finish-finished.ensures.moment c.finish-finished.ensures.behind)
+    let first = standing_of g.R.Disk.told g.R.Disk.honest g.R.Disk.order g.R.Disk.orders g.R.Disk.faults (start_of c.args.self.lock).book (start_of c.args.self.lock).moment in
+    let last = standing_of g.R.Disk.told g.R.Disk.honest g.R.Disk.order g.R.Disk.orders g.R.Disk.faults c.run_and_close-book.result.0 (Some c.args.now) in
+    let final = standing_of g.R.Disk.told g.R.Disk.honest g.R.Disk.order g.R.Disk.orders g.R.Disk.faults c.finish-finished.new.self.book (Some c.args.now) in
+    block_behind first last final (moved_moment (λ m. standing_of g.R.Disk.told g.R.Disk.honest g.R.Disk.order g.R.Disk.orders g.R.Disk.faults c.finish-finished.new.self.book m) last c.finish-finished.new.self.moment (Some c.args.now) c.finish-finished.ensures.moment c.finish-finished.ensures.behind)
     c.args.now c.args.lanes.now c.run_and_close-book.result.2.items c.run_and_close-book.result.1 c.run_and_close-book.ensures c.if-not-fed.false
-    (moved_rests (λ m. standing_of g.R.Disk.faults c.finish-finished.new.self.book m) c.args.now c.finish-finished.new.self.moment (Some c.args.now) c.finish-finished.ensures.moment c.in-Ok.ensures.rests)
+    (moved_rests (λ m. standing_of g.R.Disk.told g.R.Disk.honest g.R.Disk.order g.R.Disk.orders g.R.Disk.faults c.finish-finished.new.self.book m) c.args.now c.finish-finished.new.self.moment (Some c.args.now) c.finish-finished.ensures.moment c.in-Ok.ensures.rests)
