@@ -78,7 +78,8 @@ head_of : (quiet : Bool) (workers turns : Result ℕ Wrong) → IfOk workers (λ
     IfOk (mapped (λ (found : ℕ × ℕ). record { quiet = quiet; workers = found.0; turns = found.1 }) (both workers turns)) IsHead
 head_of quiet (Ok workers) (Ok turns) few = few
 head_of quiet (Ok workers) (Err wrong) few = tt
-head_of quiet (Err wrong) turns few = tt
+head_of quiet (Err wrong) (Ok turns) few = tt
+head_of quiet (Err wrong) (Err other) few = tt
 
 head_few : (quiet : Bool) (words : List Word) → IfOk (block_head quiet words) IsHead
 head_few quiet [] = tt

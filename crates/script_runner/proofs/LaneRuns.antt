@@ -44,7 +44,7 @@ use Rattle.delf_service.specs.Lanes.{HasCommand, LaneTold, Tells, TellsAnswer, T
 use Rattle.delf_service.specs.Rows.{commands_in, commands_at}
 use Rattle.delf_service.specs.Standings.{seat_of, kind_of, standing_of}
 use Rattle.documents.specs.Names.{HasNames, IsNumberedCall, IsNumberedLaneCommand, IsNumberedLane, IsNumberedBlock}
-use Rattle.script_runner.specs.Blocks.{AreFed, RunsLanes, LeavesLanes, block_lines}
+use Rattle.script_runner.specs.Blocks.{AreFed, MayRun, RunsLanes, LeavesLanes, block_lines}
 use Rattle.script_runner.specs.Names.{IsNamed, IsNumberedRefusal, IsNumberedAnswer, IsNumberedAsked, IsNumberedReply, AreNumberedReplies, AreNumberedOuts}
 use Rattle.script_runner.specs.Serial as serial
 use Rattle.script_runner.specs.Serial.{refused_down}
@@ -90,10 +90,12 @@ lane_if : (rules : RuleSet) (lanes : List Lane) (k : ℕ) (o : Option Lane) → 
 lane_if rules lanes k None all at = tt
 lane_if rules lanes k (Some one) all at = all_at (IsNumberedLane rules) lanes k one all at
 
-pub lanes_numbers : (rules : RuleSet) (workers : ℕ) (lanes : List Lane) → IsNumberedBlock rules workers lanes → (k i : ℕ) (c : LaneCommand) →
-    slice_get (commands_at lanes k) i ≡ Some c → HasCommand rules c
-lanes_numbers rules workers lanes block k i c at =
-    command_numbers rules c (command_at rules (slice_get lanes k) i c (lane_if rules lanes k (slice_get lanes k) block.each refl) at)
+pub may_run : (rules : RuleSet) (workers : ℕ) (lanes : List Lane) → IsNumberedBlock rules workers lanes → MayRun rules workers lanes
+may_run rules workers lanes block = record {
+  few_lanes = block.few_lanes;
+  few_workers = block.few_workers;
+  numbers = λ k i c at. command_numbers rules c (command_at rules (slice_get lanes k) i c (lane_if rules lanes k (slice_get lanes k) block.each refl) at);
+}
 
 -- what the lanes were answered has lines
 
@@ -146,12 +148,40 @@ module _ (schema : Schema) (s : Standing) (names : HasNames schema s.key.rules) 
       LaneTold s now seat made one.commands replies → AreNumberedReplies schema one.commands replies
   replies_numbered now seat made one replies is told = λ k r at.
       let tells = told.told k r at in
-      (tells.0, (tells.1, reply_numbered_by now seat tells.0 r (all_at (IsNumberedLaneCommand s.key.rules) one.commands k tells.0 is.commands tells.1) tells.2))
+      (tells.0, tells.1, reply_numbered_by now seat tells.0 r (all_at (IsNumberedLaneCommand s.key.rules) one.commands k tells.0 is.commands tells.1) tells.2)
 
 some_at : {A : Type 0} (xs : List A) (k : ℕ) → k < length xs → (x : A) × (slice_get xs k ≡ Some x)
 some_at [] k below = absurd (omega (arith, below))
 some_at (x ∷ xs) zero below = (x, refl)
 some_at (x ∷ xs) (suc k) below = some_at xs k (omega (arith, below))
+
+-- each reply has its command, and each lane its replies
+
+pub command_there : (schema : Schema) (commands : List LaneCommand) (replies : List LaneReply) (k : ℕ) → AreNumberedReplies schema commands replies → k < length replies → k < length commands
+command_there schema commands replies k numbered below =
+    let one = some_at replies k below in
+    let it = numbered k one.0 one.1 in
+    slice_get_within commands k it.0 it.1
+
+pub reply_there : (schema : Schema) (commands : List LaneCommand) (replies : List LaneReply) (k : ℕ) (command : LaneCommand) (reply : LaneReply) →
+    AreNumberedReplies schema commands replies → slice_get commands k ≡ Some command → slice_get replies k ≡ Some reply → IsNumberedReply schema command reply
+reply_there schema commands replies k command reply numbered at here =
+    let it = numbered k reply here in
+    let same : it.0 ≡ command = let is = it.1 in cc (is, at) in
+    subst (λ (c : LaneCommand). IsNumberedReply schema c reply) same it.2
+
+pub lane_there : (schema : Schema) (lanes : List Lane) (outs : List LaneOut) (k : ℕ) → AreNumberedOuts schema lanes outs → k < length outs → k < length lanes
+lane_there schema lanes outs k numbered below =
+    let one = some_at outs k below in
+    let it = numbered k one.0 one.1 in
+    slice_get_within lanes k it.0 it.1
+
+pub out_there : (schema : Schema) (lanes : List Lane) (outs : List LaneOut) (k : ℕ) (one : Lane) (out : LaneOut) → AreNumberedOuts schema lanes outs →
+    slice_get lanes k ≡ Some one → slice_get outs k ≡ Some out → AreNumberedReplies schema one.commands out.replies
+out_there schema lanes outs k one out numbered at here =
+    let it = numbered k out here in
+    let same : it.0 ≡ one = let is = it.1 in cc (is, at) in
+    subst (λ (l : Lane). AreNumberedReplies schema l.commands out.replies) same it.2
 
 -- each lane has its answers, and all of them have lines
 pub outs_numbered : (schema : Schema) (first final : Standing) (workers now : ℕ) (lanes : List Lane) (outs : List LaneOut) → HasNames schema final.key.rules →
@@ -162,11 +192,9 @@ outs_numbered schema first final workers now lanes outs names numbered has block
     let done = block.each place out at in
     let told = subst (λ (o : Option Lane). LaneTold final now (lane_seat first place) (made_by seat_of (lane_seat first place) final.history) (commands_in o) out.replies) one.1 done.told in (
       one.0,
-      (
-        one.1,
-        replies_numbered schema final names has.legal now (lane_seat first place) (made_by seat_of (lane_seat first place) final.history) one.0 out.replies
-            (all_at (IsNumberedLane final.key.rules) lanes place one.0 numbered.each one.1) told,
-      ),
+      one.1,
+      replies_numbered schema final names has.legal now (lane_seat first place) (made_by seat_of (lane_seat first place) final.history) one.0 out.replies
+          (all_at (IsNumberedLane final.key.rules) lanes place one.0 numbered.each one.1) told,
     )
 
 pub outs_few : (first final : Standing) (rules : RuleSet) (workers now : ℕ) (lanes : List Lane) (outs : List LaneOut) → IsNumberedBlock rules workers lanes →

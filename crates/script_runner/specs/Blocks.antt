@@ -1,6 +1,10 @@
 -- A block: lanes that run at once, from a world to the next one, and their lines.
-use Rattle.std.specs.Prelude.{◌≡◌, ℕ, ◌+◌, Bool, true, false, not, Option, Some, None, Result, Ok, Err, List, [], ◌∷◌, ◌++◌, length, is_ok, slice_get, flat_map}
+use Rattle.std.specs.Prelude.{◌≡◌, ◌≤◌, ℕ, ◌+◌, Bool, true, false, not, Option, Some, None, Result, Ok, Err, List, [], ◌∷◌, ◌++◌, IfOk, length, is_ok, slice_get, flat_map}
+use Rattle.std.specs.Borrow.{Bor}
 use Rattle.std.specs.List.{filter}
+use Rattle.delf_disk.specs.declared.area.Order.{Order}
+use Rattle.delf_model.specs.RuleSet.{RuleSet}
+use Rattle.delf_book.specs.Books.{Booked}
 use Rattle.delf_model.specs.declared.schema.Schema.{Schema}
 use Rattle.delf_model.specs.declared.call.Call.{Call}
 use Rattle.delf_model.specs.declared.call.Refusal.{Refusal}
@@ -19,11 +23,34 @@ use Rattle.delf_service.specs.declared.replies.LaneReply.TheVariants.{Submitted,
 use Rattle.delf_service.specs.declared.standing.DiskKind.{DiskKind}
 use Rattle.delf_service.specs.declared.standing.Standing.{Standing}
 use Rattle.delf_service.specs.Blocks.{HasLanes, IsBlock}
-use Rattle.delf_service.specs.Lanes.{IsStarved}
+use Rattle.delf_service.specs.Lanes.{HasCommand, IsStarved}
+use Rattle.delf_service.specs.Rows.{commands_at}
+use Rattle.delf_service.specs.Standings.{standing_of}
 use Rattle.job_report.specs.Texts.{refusal_text, down_text, found_text, absent_text, lane_text, par_text}
 use Rattle.documents.specs.Names.{kind_name}
 use Rattle.script_runner.specs.Lines.{receipt_text, refusal_name}
 use Rattle.script_runner.specs.Worlds.{World}
+
+-- who runs lanes
+
+-- at most 16 lanes and 16 workers, and type and edge numbers of calls are below the counts of the rules
+pub record MayRun (rules : RuleSet) (workers : ℕ) (lanes : List Lane) : Type 0 where
+  pub few_lanes : length lanes ≤ 16
+  pub few_workers : workers ≤ 16
+  pub numbers : (k i : ℕ) (c : LaneCommand) → slice_get (commands_at lanes k) i ≡ Some c → HasCommand rules c
+
+-- the last standing is one that the lanes may lead to, and where memory was not wanting each lane was answered
+pub record RunsTo {V E : Type 0} (first final : Standing) (now : ℕ) (lanes : List Lane) (items : V → List LaneOut) (outs : Result V E) : Type 0 where
+  pub has : HasLanes first final (length lanes)
+  pub block : IfOk outs (λ v. IsBlock first final now lanes (items v))
+
+-- one that may be asked to run lanes, and then does
+pub record IsRunner {G R V E : Type 0} (told honest : R → Bool) (order : R → Order) (orders faults : R → ℕ) (items : V → List LaneOut)
+    (pre : Booked G R → ℕ → Bor (List Lane) → ℕ → ℕ → Type 0) (post : Booked G R → ℕ → Bor (List Lane) → ℕ → ℕ → Booked G R × Result V E → Type 0) : Type 0 where
+  pub may : (book : Booked G R) (now : ℕ) (lanes : Bor (List Lane)) (workers turns : ℕ) → MayRun book.rules workers lanes.now → pre book now lanes workers turns
+  pub does : (book : Booked G R) (now : ℕ) (lanes : Bor (List Lane)) (workers turns : ℕ) (r : Booked G R × Result V E) → MayRun book.rules workers lanes.now →
+      post book now lanes workers turns r →
+      RunsTo (standing_of told honest order orders faults book (Some now)) (standing_of told honest order orders faults r.0 (Some now)) now lanes.now items r.1
 
 -- a world as a shared book stands over a disk of this kind, with the count of its faults, where each call is made at the clock's moment
 abbrev pub standing_in : World → DiskKind → ℕ → Standing

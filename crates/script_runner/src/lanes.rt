@@ -37,7 +37,8 @@ pub(crate) fn serve<R: Rig, B: Blocks<R>>(
     requires named { HasNames schema.now store.book.rules }
     requires numbered { IsNumberedCommand store.book.rules command.now }
     requires open { IsOpen command.now }
-    requires lanes { B.SERVED ≡ false → HasNoLanes command.now }
+    requires lanes { B.served ≡ false → HasNoLanes command.now }
+    requires ready { B.is_ready blocks.now }
     ensures rules { result.0.book.rules ≡ store.book.rules }
     ensures serves { IfOk result.1 (λ text. Plain (R.Disk.told store.book.rig) (R.Disk.honest store.book.rig) → (e : Payloads)
         → Carries R.Disk.may_leave R.Disk.faults schema.now command.now store.book result.0.book store.clock result.0.clock e text) }
@@ -82,7 +83,8 @@ fn run_block<R: Rig, B: Blocks<R>>(
 ) -> (Store<R>, Result<Bytes, AllocError>)
     requires named { HasNames schema.now store.book.rules }
     requires numbered { IsNumberedBlock store.book.rules workers lanes.now }
-    requires served { B.SERVED ≡ true }
+    requires served { B.served ≡ true }
+    requires ready { B.is_ready blocks.now }
     ensures rules { result.0.book.rules ≡ store.book.rules }
     ensures serves { IfOk result.1 (λ text. Plain (R.Disk.told store.book.rig) (R.Disk.honest store.book.rig) → (e : Payloads)
         → Carries R.Disk.may_leave R.Disk.faults schema.now (Par quiet workers turns lanes.now) store.book result.0.book store.clock result.0.clock e text) }
@@ -97,7 +99,7 @@ fn run_block<R: Rig, B: Blocks<R>>(
         let line = down_refused(alloc, len);
         return (Store { book, clock }, line);
     }
-    let (book, outs) = blocks.run(alloc, book, clock, lanes, workers, turns);
+    let (book, outs) = blocks.run(book, clock, lanes, workers, turns);
     book.standing();
     let lines = lines_of(
         alloc,

@@ -45,9 +45,10 @@ pub(crate) fn run_load<K: Sink, R: Rig, C: Clock, B: Blocks<R>>(
 ) -> (Status, R)
     requires above { 8 ≤ n }
     requires below { n ≤ 20000 }
+    requires ready { B.is_ready blocks.now }
     ensures cause { LoadCause (Rose (K.faults sink.old) (K.faults sink.new)) (DiskRose (R.Disk.faults rig) (R.Disk.faults result.1))
-        (λ area at. OfLoad B.SERVED n (λ document. Plain (R.Disk.told rig) (R.Disk.honest rig) → IsBad document.rules (R.Disk.seen rig) area at)) result.0 }
-    ensures text { IsTrue (K.told sink.old) → LoadedText B.SERVED n (λ document status. Plain (R.Disk.told rig) (R.Disk.honest rig)
+        (λ area at. OfLoad B.served n (λ document. Plain (R.Disk.told rig) (R.Disk.honest rig) → IsBad document.rules (R.Disk.seen rig) area at)) result.0 }
+    ensures text { IsTrue (K.told sink.old) → LoadedText B.served n (λ document status. Plain (R.Disk.told rig) (R.Disk.honest rig)
         → LoadText n document (C.last_answer clock.new) (R.Disk.seen rig) (R.Disk.may_leave rig)
         (R.Disk.faults rig) (R.Disk.faults result.1) (R.Disk.may_leave result.1) (K.held sink.old) (K.held sink.new) status)
         (K.held sink.old) (K.held sink.new) result.0 }
@@ -57,7 +58,7 @@ pub(crate) fn run_load<K: Sink, R: Rig, C: Clock, B: Blocks<R>>(
     ensures kind { SameKind R.Disk.told R.Disk.honest R.Disk.order R.Disk.orders rig result.1 }
     ensures asked { AsksOnce result.0 (C.times_asked clock.old) (C.times_asked clock.new) }
 {
-    let Ok(document) = load_document(alloc, n, B::SERVED) else {
+    let Ok(document) = load_document(alloc, n, blocks.are_served()) else {
         return (Status::OutOfMemory { done: 0 }, rig);
     };
     let moment = clock.now();
@@ -77,7 +78,8 @@ fn load_into<K: Sink, R: Rig, B: Blocks<R>>(
     requires named { HasNames document.schema document.rules }
     requires numbered { All (IsNumberedCommand document.rules) document.commands }
     requires still { All IsStill document.commands }
-    requires lanes { B.SERVED ≡ false → All HasNoLanes document.commands }
+    requires lanes { B.served ≡ false → All HasNoLanes document.commands }
+    requires ready { B.is_ready blocks.now }
     ensures cause { LoadCause (Rose (K.faults sink.old) (K.faults sink.new)) (DiskRose (R.Disk.faults rig) (R.Disk.faults result.1))
         (λ area at. Plain (R.Disk.told rig) (R.Disk.honest rig) → IsBad document.rules (R.Disk.seen rig) area at) result.0 }
     ensures text { IsTrue (K.told sink.old) → Plain (R.Disk.told rig) (R.Disk.honest rig) → LoadText n document moment (R.Disk.seen rig) (R.Disk.may_leave rig)
@@ -112,7 +114,8 @@ fn make_load<K: Sink, R: Rig, B: Blocks<R>>(
     requires named { HasNames schema.now store.book.rules }
     requires numbered { All (IsNumberedCommand store.book.rules) commands.now }
     requires still { All IsStill commands.now }
-    requires lanes { B.SERVED ≡ false → All HasNoLanes commands.now }
+    requires lanes { B.served ≡ false → All HasNoLanes commands.now }
+    requires ready { B.is_ready blocks.now }
     ensures cause { LoadCause (Rose (K.faults sink.old) (K.faults sink.new)) (DiskRose (R.Disk.faults store.book.rig) (R.Disk.faults result.1))
         (λ area at. ⊥) result.0 }
     ensures text { IsTrue (K.told sink.old) → Plain (R.Disk.told store.book.rig) (R.Disk.honest store.book.rig) → (e : Payloads)
@@ -145,7 +148,8 @@ fn make_all<R: Rig, B: Blocks<R>>(
     requires named { HasNames schema.now store.book.rules }
     requires numbered { All (IsNumberedCommand store.book.rules) commands.now }
     requires still { All IsStill commands.now }
-    requires lanes { B.SERVED ≡ false → All HasNoLanes commands.now }
+    requires lanes { B.served ≡ false → All HasNoLanes commands.now }
+    requires ready { B.is_ready blocks.now }
     ensures made { OnOk result.1 (Plain (R.Disk.told store.book.rig) (R.Disk.honest store.book.rig) → (e : Payloads)
         → StandsOn (world_of store.book store.clock e) (R.Disk.may_leave store.book.rig)
         → Leads R.Disk.may_leave R.Disk.faults schema.now (world_of store.book store.clock e) commands.now (R.Disk.faults store.book.rig) result.0.book result.0.clock) }

@@ -1,5 +1,5 @@
 //! A run: the words, the source, the store, its commands one by one, and the last settling.
-ghost use Rattle.std.specs.Prelude.{◌≡◌, ◌++◌, ◌⊎◌, ◌<◌, ◌≤◌, ◌^◌, ℕ, List, true, false, IsTrue, IfOk, IfErr, map, length, string_bytes};
+ghost use Rattle.std.specs.Prelude.{◌≡◌, ◌++◌, ◌⊎◌, ◌<◌, ◌≤◌, ◌^◌, ℕ, List, Some, true, false, IsTrue, IfOk, IfErr, map, length, string_bytes};
 ghost use Rattle.std.specs.List.{All};
 ghost use Rattle.delf_disk.specs.Causes.{Rose as DiskRose};
 ghost use Rattle.delf_disk.specs.Plain.{Plain, SameKind, SameTelling};
@@ -10,6 +10,9 @@ ghost use Rattle.delf_model.specs.Legal.{Legal};
 ghost use Rattle.delf_model.specs.Sound.{Sound};
 ghost use Rattle.job_report.specs.Texts.{opened_text};
 ghost use Rattle.delf_model.specs.Payloads.{Payloads};
+ghost use denote.Param.Send.{IsSync};
+ghost use Rattle.delf_service.specs.Standings.{standing_of};
+ghost use Rattle.script_runner.specs.Blocks.{MayRun, RunsTo};
 ghost use Rattle.script_runner.specs.Complete.{IsQuiet, IsStore, EndsWell};
 ghost use Rattle.script_runner.specs.Endings.{UnopenedText, UnopenedCause, DownText, DownCause, EndText, EndCause};
 ghost use Rattle.script_runner.specs.LoadEnds.{LoadText};
@@ -22,8 +25,9 @@ ghost use Rattle.script_runner.specs.Faults.{FaultText, FaultCause};
 ghost use Rattle.script_runner.specs.Standing.{Falls, Carries};
 ghost use Rattle.script_runner.specs.Worlds.{StandsOn, world_of};
 
-use crate::blocks::{Blocks, NoBlocks, Threaded};
+use crate::blocks::{Blocks, NoBlocks, RunBy};
 use crate::check::check_source;
+use crate::graph::ProgramBook;
 use crate::lanes::serve;
 use crate::loading::run_load;
 use crate::status::Status;
@@ -31,9 +35,9 @@ use crate::store::{Store, crash};
 use delf_book::BookFault;
 use delf_disk::{Area, Rig};
 use delf_io::{Clock, Sink, Source};
-use delf_model::{Bytes, Command, GREATEST_MOMENT, Moment, Schema};
+use delf_model::{Bytes, Command, GREATEST_MOMENT, Lane, Moment, Schema};
 use delf_recovery::OpenFault;
-use delf_service::Gate;
+use delf_service::{Gate, LaneOut, run_lanes};
 use documents::{
     Document, READ_LIMIT, ReadError, Request, Start, put_all, read_at_most, read_document,
     read_words,
@@ -130,9 +134,17 @@ pub fn run<W: Threads + Wait + Sync, S: Source, K: Sink, R: Rig + Send, C: Clock
     ensures orders { OrdersBy true (request_of (map string_bytes words.now)) (S.told source.old) (S.left source.old) (R.Disk.order rig) (R.Disk.orders rig) (R.Disk.order result.1) (R.Disk.orders result.1) result.0 }
     ensures asked { Asks (request_of (map string_bytes words.now)) result.0 (C.times_asked clock.old) (C.times_asked clock.new) }
 {
+    let run_block = |book: ProgramBook<R>, now: Moment, lanes: &[Lane], _workers: u8, _turns: u32| -> (
+        ProgramBook<R>,
+        Result<Vec<LaneOut>, AllocError>,
+    )
+        requires { IsSync W.row × IsSync Q.row × MayRun book.rules _workers lanes.now }
+        ensures { RunsTo (standing_of R.Disk.told R.Disk.honest R.Disk.order R.Disk.orders R.Disk.faults book (Some now))
+            (standing_of R.Disk.told R.Disk.honest R.Disk.order R.Disk.orders R.Disk.faults result.0 (Some now)) now lanes.entry.now (λ v. v.items) result.1 }
+    { run_lanes(rt, alloc, book, now, lanes, gate) };
     run_words(
         alloc,
-        &Threaded { rt, gate },
+        &RunBy { run: &run_block },
         words,
         source,
         sink,
@@ -151,14 +163,15 @@ fn run_words<S: Source, K: Sink, R: Rig, C: Clock, B: Blocks<R>>(
     rig: R,
     clock: &mut C,
 ) -> (Status, R)
+    requires { B.is_ready blocks.now }
     // Why it ended so, and what it put and left on the disk.
-    ensures cause { RunCause B.SERVED (request_of (map string_bytes words.now)) (S.told source.old) (S.left source.old)
+    ensures cause { RunCause B.served (request_of (map string_bytes words.now)) (S.told source.old) (S.left source.old)
         (Rose (S.faults source.old) (S.faults source.new)) (Rose (K.faults sink.old) (K.faults sink.new)) (DiskRose (R.Disk.faults rig) (R.Disk.faults result.1))
         (λ rules area at. Plain (R.Disk.told rig) (R.Disk.honest rig) → IsBad rules (R.Disk.seen rig) area at) result.0 }
     ensures complete { IsQuiet (Rose (S.faults source.old) (S.faults source.new)) (Rose (K.faults sink.old) (K.faults sink.new)) (DiskRose (R.Disk.faults rig) (R.Disk.faults result.1))
-        → EndsWell B.SERVED (request_of (map string_bytes words.now)) (S.told source.old) (S.left source.old)
+        → EndsWell B.served (request_of (map string_bytes words.now)) (S.told source.old) (S.left source.old)
         (λ rules. Plain (R.Disk.told rig) (R.Disk.honest rig) × IsStore rules (R.Disk.seen rig)) result.0 }
-    ensures text { IsTrue (K.told sink.old) → RunText B.SERVED (request_of (map string_bytes words.now)) (C.last_answer clock.new)
+    ensures text { IsTrue (K.told sink.old) → RunText B.served (request_of (map string_bytes words.now)) (C.last_answer clock.new)
         (S.told source.old) (S.left source.old) (λ moment document status. Plain (R.Disk.told rig) (R.Disk.honest rig) → DocumentText document moment (R.Disk.seen rig) (R.Disk.may_leave rig)
         (R.Disk.faults rig) (R.Disk.faults result.1) (R.Disk.may_leave result.1) (K.held sink.old) (K.held sink.new) status)
         (λ n moment document status. Plain (R.Disk.told rig) (R.Disk.honest rig) → LoadText n document moment (R.Disk.seen rig) (R.Disk.may_leave rig)
@@ -177,12 +190,12 @@ fn run_words<S: Source, K: Sink, R: Rig, C: Clock, B: Blocks<R>>(
     ensures rig_faults { R.Disk.faults rig ≤ R.Disk.faults result.1 }
     ensures source_faults { S.faults source.old ≤ S.faults source.new }
     ensures untouched { UntouchedBy (request_of (map string_bytes words.now)) (result.1 ≡ rig) result.0 }
-    ensures orders { OrdersBy B.SERVED (request_of (map string_bytes words.now)) (S.told source.old) (S.left source.old) (R.Disk.order rig) (R.Disk.orders rig) (R.Disk.order result.1) (R.Disk.orders result.1) result.0 }
+    ensures orders { OrdersBy B.served (request_of (map string_bytes words.now)) (S.told source.old) (S.left source.old) (R.Disk.order rig) (R.Disk.orders rig) (R.Disk.order result.1) (R.Disk.orders result.1) result.0 }
     ensures asked { Asks (request_of (map string_bytes words.now)) result.0 (C.times_asked clock.old) (C.times_asked clock.new) }
 {
     match read_words(words) {
         Some(Request::Run(start)) => run_source(alloc, blocks, start, source, sink, rig, clock),
-        Some(Request::Check) => (check_source(alloc, source, sink, B::SERVED), rig),
+        Some(Request::Check) => (check_source(alloc, source, sink, blocks.are_served()), rig),
         Some(Request::Load { n }) => run_load(alloc, blocks, n, sink, rig, clock),
         None => (put_usage(sink), rig),
     }
@@ -209,10 +222,11 @@ fn run_source<S: Source, K: Sink, R: Rig, C: Clock, B: Blocks<R>>(
     rig: R,
     clock: &mut C,
 ) -> (Status, R)
-    ensures cause { SourceCause B.SERVED (S.told source.old) (S.left source.old)
+    requires { B.is_ready blocks.now }
+    ensures cause { SourceCause B.served (S.told source.old) (S.left source.old)
         (Rose (S.faults source.old) (S.faults source.new)) (Rose (K.faults sink.old) (K.faults sink.new)) (DiskRose (R.Disk.faults rig) (R.Disk.faults result.1))
         (λ rules area at. Plain (R.Disk.told rig) (R.Disk.honest rig) → IsBad rules (R.Disk.seen rig) area at) result.0 }
-    ensures text { IsTrue (K.told sink.old) → SourceText B.SERVED (S.told source.old) (S.left source.old)
+    ensures text { IsTrue (K.told sink.old) → SourceText B.served (S.told source.old) (S.left source.old)
         (λ document status. Plain (R.Disk.told rig) (R.Disk.honest rig) → DocumentText document (moment_of_start start (C.last_answer clock.new)) (R.Disk.seen rig) (R.Disk.may_leave rig)
         (R.Disk.faults rig) (R.Disk.faults result.1) (R.Disk.may_leave result.1) (K.held sink.old) (K.held sink.new) status)
         (K.held sink.old) (K.held sink.new) result.0 }
@@ -226,7 +240,7 @@ fn run_source<S: Source, K: Sink, R: Rig, C: Clock, B: Blocks<R>>(
     ensures rig_faults { R.Disk.faults rig ≤ R.Disk.faults result.1 }
     ensures source_faults { S.faults source.old ≤ S.faults source.new }
     ensures untouched { Untouched (result.1 ≡ rig) result.0 }
-    ensures orders { IsTrue (S.told source.old) → OrdersOf B.SERVED (S.left source.old) (R.Disk.order rig) (R.Disk.orders rig) (R.Disk.order result.1) (R.Disk.orders result.1) result.0 }
+    ensures orders { IsTrue (S.told source.old) → OrdersOf B.served (S.left source.old) (R.Disk.order rig) (R.Disk.orders rig) (R.Disk.order result.1) (R.Disk.orders result.1) result.0 }
     ensures asked { AsksFor start result.0 (C.times_asked clock.old) (C.times_asked clock.new) }
 {
     match read_at_most(alloc, source, READ_LIMIT) {
@@ -245,9 +259,10 @@ fn run_bytes<K: Sink, R: Rig, C: Clock, B: Blocks<R>>(
     rig: R,
     clock: &mut C,
 ) -> (Status, R)
-    ensures cause { BytesCause B.SERVED bytes.now (Rose (K.faults sink.old) (K.faults sink.new)) (DiskRose (R.Disk.faults rig) (R.Disk.faults result.1))
+    requires { B.is_ready blocks.now }
+    ensures cause { BytesCause B.served bytes.now (Rose (K.faults sink.old) (K.faults sink.new)) (DiskRose (R.Disk.faults rig) (R.Disk.faults result.1))
         (λ rules area at. Plain (R.Disk.told rig) (R.Disk.honest rig) → IsBad rules (R.Disk.seen rig) area at) result.0 }
-    ensures text { IsTrue (K.told sink.old) → BytesText B.SERVED bytes.now
+    ensures text { IsTrue (K.told sink.old) → BytesText B.served bytes.now
         (λ document status. Plain (R.Disk.told rig) (R.Disk.honest rig) → DocumentText document (moment_of_start start (C.last_answer clock.new)) (R.Disk.seen rig) (R.Disk.may_leave rig)
         (R.Disk.faults rig) (R.Disk.faults result.1) (R.Disk.may_leave result.1) (K.held sink.old) (K.held sink.new) status)
         (K.held sink.old) (K.held sink.new) result.0 }
@@ -256,10 +271,10 @@ fn run_bytes<K: Sink, R: Rig, C: Clock, B: Blocks<R>>(
     ensures telling { SameTelling R.Disk.told R.Disk.honest rig result.1 }
     ensures rig_faults { R.Disk.faults rig ≤ R.Disk.faults result.1 }
     ensures untouched { Untouched (result.1 ≡ rig) result.0 }
-    ensures orders { OrdersOf B.SERVED bytes.now (R.Disk.order rig) (R.Disk.orders rig) (R.Disk.order result.1) (R.Disk.orders result.1) result.0 }
+    ensures orders { OrdersOf B.served bytes.now (R.Disk.order rig) (R.Disk.orders rig) (R.Disk.order result.1) (R.Disk.orders result.1) result.0 }
     ensures asked { AsksFor start result.0 (C.times_asked clock.old) (C.times_asked clock.new) }
 {
-    let document = match read_document(alloc, bytes, B::SERVED) {
+    let document = match read_document(alloc, bytes, blocks.are_served()) {
         Ok(document) => document,
         Err(fault) => return (put_fault(alloc, fault, sink), rig),
     };
@@ -302,7 +317,8 @@ fn run_document<K: Sink, R: Rig, B: Blocks<R>>(
     requires rules { document.rules ≡ numbered document.schema }
     requires named { HasNames document.schema document.rules }
     requires numbered { All (IsNumberedCommand document.rules) document.commands }
-    requires lanes { B.SERVED ≡ false → All HasNoLanes document.commands }
+    requires lanes { B.served ≡ false → All HasNoLanes document.commands }
+    requires ready { B.is_ready blocks.now }
     ensures cause { ScriptCause (Rose (K.faults sink.old) (K.faults sink.new)) (DiskRose (R.Disk.faults rig) (R.Disk.faults result.1))
         (λ area at. Plain (R.Disk.told rig) (R.Disk.honest rig) → IsBad document.rules (R.Disk.seen rig) area at) result.0 }
     ensures text { IsTrue (K.told sink.old) → Plain (R.Disk.told rig) (R.Disk.honest rig) → DocumentText document moment (R.Disk.seen rig) (R.Disk.may_leave rig)
@@ -382,7 +398,8 @@ fn run_commands<K: Sink, R: Rig, B: Blocks<R>>(
     requires rules { store.book.rules ≡ numbered schema.now }
     requires named { HasNames schema.now store.book.rules }
     requires numbered { All (IsNumberedCommand store.book.rules) commands.now }
-    requires lanes { B.SERVED ≡ false → All HasNoLanes commands.now }
+    requires lanes { B.served ≡ false → All HasNoLanes commands.now }
+    requires ready { B.is_ready blocks.now }
     ensures cause { ScriptCause (Rose (K.faults sink.old) (K.faults sink.new)) (DiskRose (R.Disk.faults store.book.rig) (R.Disk.faults result.1))
         (λ area at. Plain (R.Disk.told store.book.rig) (R.Disk.honest store.book.rig) → (e : Payloads)
         → StandsOn (world_of store.book store.clock e) (R.Disk.may_leave store.book.rig) → ⊥) result.0 }
@@ -427,7 +444,8 @@ fn make<R: Rig, B: Blocks<R>>(
     requires rules { store.book.rules ≡ numbered schema.now }
     requires named { HasNames schema.now store.book.rules }
     requires numbered { IsNumberedCommand store.book.rules command.now }
-    requires lanes { B.SERVED ≡ false → HasNoLanes command.now }
+    requires lanes { B.served ≡ false → HasNoLanes command.now }
+    requires ready { B.is_ready blocks.now }
     ensures same_rules { IfOk result (λ it. it.0.book.rules ≡ store.book.rules) }
     ensures serves { IfOk result (λ it. Plain (R.Disk.told store.book.rig) (R.Disk.honest store.book.rig) → (e : Payloads)
         → Carries R.Disk.may_leave R.Disk.faults schema.now command.now store.book it.0.book store.clock it.0.clock e it.1) }

@@ -5,39 +5,39 @@ use Rattle.delf_service.specs.declared.replies.LaneOut.{LaneOut}
 use Rattle.delf_service.specs.Blocks.{IsBlock}
 use Rattle.delf_service.specs.Standings.{standing_of}
 use Rattle.script_runner.proofs.Calls.{if_ok, ok_is, on_err}
-use Rattle.script_runner.proofs.LaneRuns.{lanes_numbers, block_serves, block_halts, block_falls, block_kind, block_lined, down_block, down_halts}
+use Rattle.script_runner.proofs.LaneRuns.{may_run, block_serves, block_halts, block_falls, block_kind, block_lined, down_block, down_halts}
 use Rattle.script_runner.proofs.lanes.run_block.Goals as goal
 
-pub run-requires-numbers : goal.run-requires-numbers
-run-requires-numbers g c = lanes_numbers c.args.store.book.rules c.args.workers c.args.lanes.now c.requires.numbered
+pub run-requires-may : goal.run-requires-may
+run-requires-may g c = may_run c.args.store.book.rules c.args.workers c.args.lanes.now c.requires.numbered
 
 pub lines_of-requires : goal.lines_of-requires
 lines_of-requires g c = λ outs is.
     block_lined g.R.Disk.told g.R.Disk.honest g.R.Disk.order g.R.Disk.orders g.R.Disk.seen g.R.Disk.may_leave g.R.Disk.faults c.args.schema.now c.args.quiet c.args.workers c.args.turns c.args.lanes.now c.args.store.book c.run-book.result.0 c.args.store.clock
-    (λ v. v.items) outs c.requires.named c.requires.numbered c.run-book.ensures.kept
+    (λ v. v.items) outs c.requires.named c.requires.numbered c.run-book.ensures.has
     (subst (λ o. IfOk o (λ v. IsBlock (standing_of g.R.Disk.told g.R.Disk.honest g.R.Disk.order g.R.Disk.orders g.R.Disk.faults c.args.store.book (Some c.args.store.clock)) (standing_of g.R.Disk.told g.R.Disk.honest g.R.Disk.order g.R.Disk.orders g.R.Disk.faults c.run-book.result.0 (Some c.args.store.clock))
     c.args.store.clock c.args.lanes.now v.items)) is c.run-book.ensures.block)
 
 pub returns-clause-rules : goal.returns-clause-rules
-returns-clause-rules g c = ap (λ (k : Key). k.rules) c.run-book.ensures.kept.later.key
+returns-clause-rules g c = ap (λ (k : Key). k.rules) c.run-book.ensures.has.later.key
 
 pub returns-clause-serves : goal.returns-clause-serves
 returns-clause-serves g c = if_ok _ c.lines_of-lines.result (λ text is plain e stands.
     block_serves g.R.Disk.told g.R.Disk.honest g.R.Disk.order g.R.Disk.orders g.R.Disk.seen g.R.Disk.may_leave g.R.Disk.faults c.args.schema.now c.args.quiet c.args.workers c.args.turns c.args.lanes.now c.args.store.book c.run-book.result.0 c.args.store.clock
-    (λ v. v.items) c.run-book.result.1 e text c.requires.up c.run-book.ensures.kept c.run-book.ensures.block (ok_is _ c.lines_of-lines.result text is c.lines_of-lines.ensures)
+    (λ v. v.items) c.run-book.result.1 e text c.requires.up c.run-book.ensures.has c.run-book.ensures.block (ok_is _ c.lines_of-lines.result text is c.lines_of-lines.ensures)
     c.standing.ensures.alone (c.standing.ensures.holds plain))
 
 pub returns-clause-halts : goal.returns-clause-halts
 returns-clause-halts g c = on_err c.lines_of-lines.result (λ plain e stands.
     block_halts g.R.Disk.told g.R.Disk.honest g.R.Disk.order g.R.Disk.orders g.R.Disk.seen g.R.Disk.may_leave g.R.Disk.faults c.args.schema.now c.args.quiet c.args.workers c.args.turns c.args.lanes.now c.args.store.book c.run-book.result.0 c.args.store.clock
-    e c.requires.up c.run-book.ensures.kept (c.standing.ensures.holds plain))
+    e c.requires.up c.run-book.ensures.has (c.standing.ensures.holds plain))
 
 pub returns-clause-cause : goal.returns-clause-cause
 returns-clause-cause g c =
     block_falls g.R.Disk.told g.R.Disk.honest g.R.Disk.order g.R.Disk.orders g.R.Disk.seen g.R.Disk.may_leave g.R.Disk.faults c.args.schema.now c.args.quiet c.args.workers c.args.turns c.args.lanes.now c.args.store.book c.run-book.result.0 c.args.store.clock
-    c.run-book.ensures.kept
+    c.run-book.ensures.has
 
 pub returns-clause-kind : goal.returns-clause-kind
 returns-clause-kind g c =
     block_kind g.R.Disk.told g.R.Disk.honest g.R.Disk.order g.R.Disk.orders g.R.Disk.seen g.R.Disk.may_leave g.R.Disk.faults c.args.schema.now c.args.quiet c.args.workers c.args.turns
-    c.args.lanes.now c.args.store.book c.run-book.result.0 c.args.store.clock c.run-book.ensures.kept
+    c.args.lanes.now c.args.store.book c.run-book.result.0 c.args.store.clock c.run-book.ensures.has

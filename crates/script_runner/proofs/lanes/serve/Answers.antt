@@ -7,7 +7,7 @@ pub run_block-requires-numbered : goal.run_block-requires-numbered
 run_block-requires-numbered g c = rw c.as_slice.ensures (subst (IsNumberedCommand c.args.store.book.rules) c.in-Par.is c.requires.numbered)
 
 pub run_block-requires-served : goal.run_block-requires-served
-run_block-requires-served g c = served_if g.B.SERVED (λ plain. subst HasNoLanes c.in-Par.is (c.requires.lanes plain))
+run_block-requires-served g c = served_if g.B.served (λ plain. subst HasNoLanes c.in-Par.is (c.requires.lanes plain))
 
 pub returns-in-Par-clause-serves : goal.returns-in-Par-clause-serves
 returns-in-Par-clause-serves g c = rw c.in-Par.is (rw c.as_slice.ensures c.run_block.ensures.serves)
