@@ -280,13 +280,16 @@ module _ {G R : Type 0} (told honest : R → Bool) (order : R → Order) (orders
   }
 
   -- by what the lanes answered, if memory was not wanting
-  pub block_serves : {V E : Type 0} (items : V → List LaneOut) (outs : Result V E) (e : Payloads) (text : List ℕ) → old.down ≡ false → HasLanes first final (length lanes) →
-      IfOk outs (λ v. IsBlock first final clock lanes (items v)) →
-      IsOkAnd outs (λ v. AreFed (items v) × (text ≡ block_lines schema quiet lanes (items v) (length now.history) now.down)) →
+  pub block_serves : {V E : Type 0} (items : V → List LaneOut) (outs : Result V E) (e : Payloads) (text : List ℕ) (len : ℕ) (down : Bool) → old.down ≡ false →
+      HasLanes first final (length lanes) → IfOk outs (λ v. IsBlock first final clock lanes (items v)) → len ≡ length now.history → down ≡ now.down →
+      IsOkAnd outs (λ v. AreFed (items v) × (text ≡ block_lines schema quiet lanes (items v) len down)) →
       (now.down ≡ false → now.beside ≡ None) → Holds seen may_leave now →
       Carried may_leave faults schema (Par quiet workers turns lanes) (world_of old clock e) (faults old.rig) now clock text
-  block_serves items (Ok v) e text up has block said alone holds = block_carried e (items v) text up has block said.0 said.1 alone holds
-  block_serves items (Err why) e text up has block said alone holds = absurd said
+  block_serves items (Ok v) e text len down up has block len_is down_is said alone holds =
+      block_carried e (items v) text up has block said.0
+      (said.1 ∙ ap (λ (n : ℕ). block_lines schema quiet lanes (items v) n down) len_is
+      ∙ ap (λ (b : Bool). block_lines schema quiet lanes (items v) (length now.history) b) down_is) alone holds
+  block_serves items (Err why) e text len down up has block len_is down_is said alone holds = absurd said
 
   pub block_lined : {V : Type 0} (items : V → List LaneOut) (v : V) → HasNames schema old.rules → IsNumberedBlock old.rules workers lanes → HasLanes first final (length lanes) →
       IsBlock first final clock lanes (items v) → AreNumberedOuts schema lanes (items v) × (length (items v) ≤ 16)

@@ -101,15 +101,9 @@ fn run_block<R: Rig, B: Blocks<R>>(
     }
     let (book, outs) = blocks.run(book, clock, lanes, workers, turns);
     book.standing();
-    let lines = lines_of(
-        alloc,
-        schema,
-        quiet,
-        lanes,
-        outs,
-        book.len(),
-        book.is_down(),
-    );
+    let after = book.len();
+    let down = book.is_down();
+    let lines = lines_of(alloc, schema, quiet, lanes, outs, after, down);
     (Store { book, clock }, lines)
 }
 

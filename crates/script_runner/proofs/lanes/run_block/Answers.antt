@@ -1,7 +1,9 @@
-use Rattle.std.proofs.Common.{List, Some, Ok, subst, sym, ap, ◌∙◌}
+use Rattle.std.proofs.Common.{ℕ, [], Some, subst, sym, ap, ◌∙◌}
+use Rattle.std.proofs.lemmas.Result.{IfOk-weaker}
+use Rattle.delf_model.specs.declared.call.Refusal.TheVariants as refusal
+use Rattle.job_report.specs.Texts.{refusal_text}
 use Rattle.std.specs.Prelude.{IfOk}
 use Rattle.delf_service.specs.declared.standing.Key.{Key}
-use Rattle.delf_service.specs.declared.replies.LaneOut.{LaneOut}
 use Rattle.delf_service.specs.Blocks.{IsBlock}
 use Rattle.delf_service.specs.Standings.{standing_of}
 use Rattle.script_runner.proofs.Calls.{if_ok, ok_is, on_err}
@@ -18,19 +20,31 @@ lines_of-requires g c = λ outs is.
     (subst (λ o. IfOk o (λ v. IsBlock (standing_of g.R.Disk.told g.R.Disk.honest g.R.Disk.order g.R.Disk.orders g.R.Disk.faults c.args.store.book (Some c.args.store.clock)) (standing_of g.R.Disk.told g.R.Disk.honest g.R.Disk.order g.R.Disk.orders g.R.Disk.faults c.run-book.result.0 (Some c.args.store.clock))
     c.args.store.clock c.args.lanes.now v.items)) is c.run-book.ensures.block)
 
+pub returns-then-is_down-clause-serves : goal.returns-then-is_down-clause-serves
+returns-then-is_down-clause-serves g c = IfOk-weaker c.down_refused-line.result _ _ (λ text said plain e stands.
+    down_block g.R.Disk.told g.R.Disk.honest g.R.Disk.order g.R.Disk.orders g.R.Disk.seen g.R.Disk.may_leave g.R.Disk.faults c.args.schema.now c.args.quiet c.args.workers c.args.turns c.args.lanes.now
+    c.args.store.book c.args.store.book c.args.store.clock e text (sym c.is_down.ensures ∙ c.if-is_down.true)
+    (said ∙ ap (λ (n : ℕ). refusal_text (refusal.Down n) n []) c.len-len.ensures.value) stands) c.down_refused-line.ensures
+
+pub returns-then-is_down-clause-halts : goal.returns-then-is_down-clause-halts
+returns-then-is_down-clause-halts g c = on_err c.down_refused-line.result (λ plain e stands.
+    down_halts g.R.Disk.told g.R.Disk.honest g.R.Disk.order g.R.Disk.orders g.R.Disk.seen g.R.Disk.may_leave g.R.Disk.faults c.args.schema.now c.args.quiet c.args.workers c.args.turns c.args.lanes.now
+    c.args.store.book c.args.store.book c.args.store.clock e c.len-len.ensures.legal stands)
+
 pub returns-clause-rules : goal.returns-clause-rules
 returns-clause-rules g c = ap (λ (k : Key). k.rules) c.run-book.ensures.has.later.key
 
 pub returns-clause-serves : goal.returns-clause-serves
 returns-clause-serves g c = if_ok _ c.lines_of-lines.result (λ text is plain e stands.
     block_serves g.R.Disk.told g.R.Disk.honest g.R.Disk.order g.R.Disk.orders g.R.Disk.seen g.R.Disk.may_leave g.R.Disk.faults c.args.schema.now c.args.quiet c.args.workers c.args.turns c.args.lanes.now c.args.store.book c.run-book.result.0 c.args.store.clock
-    (λ v. v.items) c.run-book.result.1 e text c.requires.up c.run-book.ensures.has c.run-book.ensures.block (ok_is _ c.lines_of-lines.result text is c.lines_of-lines.ensures)
+    (λ v. v.items) c.run-book.result.1 e text c.len-after.result c.is_down-down.result (sym c.is_down.ensures ∙ c.if-is_down.false) c.run-book.ensures.has c.run-book.ensures.block c.len-after.ensures.value c.is_down-down.ensures
+    (ok_is _ c.lines_of-lines.result text is c.lines_of-lines.ensures)
     c.standing.ensures.alone (c.standing.ensures.holds plain))
 
 pub returns-clause-halts : goal.returns-clause-halts
 returns-clause-halts g c = on_err c.lines_of-lines.result (λ plain e stands.
     block_halts g.R.Disk.told g.R.Disk.honest g.R.Disk.order g.R.Disk.orders g.R.Disk.seen g.R.Disk.may_leave g.R.Disk.faults c.args.schema.now c.args.quiet c.args.workers c.args.turns c.args.lanes.now c.args.store.book c.run-book.result.0 c.args.store.clock
-    e c.requires.up c.run-book.ensures.has (c.standing.ensures.holds plain))
+    e (sym c.is_down.ensures ∙ c.if-is_down.false) c.run-book.ensures.has (c.standing.ensures.holds plain))
 
 pub returns-clause-cause : goal.returns-clause-cause
 returns-clause-cause g c =
