@@ -1,9 +1,9 @@
 -- Rows that are opened, run and joined, and the steps behind them.
-use Rattle.std.proofs.Common.{◌≡◌, ℕ, ◌+◌, ◌*◌, ◌<◌, ◌≤◌, ◌⊎◌, Bool, true, false, List, [], ◌∷◌, ◌++◌, length, map, take, drop, Option, Some, None, refl, sym, ap, ◌∙◌, subst, arith, ⊎_elim}
+use Rattle.std.proofs.Common.{◌≡◌, ℕ, zero, suc, ◌+◌, ◌-◌, ◌*◌, ◌<◌, ◌≤◌, ◌⊎◌, Bool, true, false, List, [], ◌∷◌, ◌++◌, length, map, take, drop, Option, Some, None, refl, sym, ap, ◌∙◌, subst, arith, ⊎_elim}
 use Rattle.std.specs.Prelude.{slice_get, option_map, slice_index_or}
 use Rattle.std.proofs.lemmas.Bool.{cases_lt}
 use Rattle.std.proofs.Math.Seq.{take-append_seam}
-use Rattle.std.proofs.lemmas.List.{length-map}
+use Rattle.std.proofs.lemmas.List.{length-map, length-take-le}
 use Rattle.std.proofs.lemmas.Option.{slice_get-map, slice_get_within, slice_get-get_or, get_or_from_slice_get}
 use Rattle.delf_model.specs.declared.entry.Entry.{Entry}
 use Rattle.delf_model.specs.declared.script.Lane.{Lane}
@@ -19,14 +19,15 @@ use Rattle.delf_service.specs.Blocks.{root_of, lane_seat, Rests, IsBehind, HasLa
 use Rattle.delf_service.specs.Follows.{Follows, IsMoment}
 use Rattle.delf_service.specs.FollowLaws.{Follows-itself, Follows-chain}
 use Rattle.delf_service.specs.Lanes.{HasCommand, LaneTold, Ended}
-use Rattle.delf_service.specs.Openings.{HasRoom, has_next, IsRoomFor, OpenedAt, RanLanes}
-use Rattle.delf_service.specs.Rows.{commands_at, IsReady, IsRun}
+use Rattle.delf_service.specs.Openings.{HasRoom, HasRooms, has_next, OpenedAt, RanLanes}
+use Rattle.delf_service.specs.Rows.{commands_at, IsReady, IsRun, IsRowRun}
 use Rattle.delf_service.specs.Seats.{Starts, Closed}
-use Rattle.delf_service.specs.Standings.{seat_of}
+use Rattle.delf_service.specs.Standings.{seat_of, laneless}
 use Rattle.delf_service.proofs.Joining.{map-push}
-use Rattle.delf_service.proofs.Lanes.{told_later}
+use Rattle.delf_service.proofs.Lanes.{told_later, told_nothing}
 use Rattle.delf_service.proofs.Numbers.{fresh_from}
 use Rattle.delf_service.proofs.Places.{push_cases}
+use Rattle.delf_service.proofs.Runs.{commands_past}
 
 abbrev SeatView : Type 0
 SeatView = View Standing Entry
@@ -100,12 +101,24 @@ module _ {R : Type 0} (seat : R → SeatView) (mine : R → Type 0) where
       subst (λ (z : R). mine z × OpenedAt v k (seat z)) here.1 (own, subst (λ (i : ℕ). OpenedAt v i (seat row)) place new))
       (push_cases rows row r k (ap (λ (l : List R). slice_get l k) (sym more) ∙ at))
 
+-- an element of a front of a list
+get_taken : {A : Type 0} (n : ℕ) (xs : List A) (k : ℕ) (x : A) → slice_get (take n xs) k ≡ Some x → slice_get xs k ≡ Some x
+get_taken zero xs k x at = absurd (cc at)
+get_taken (suc n) [] k x at = absurd (cc at)
+get_taken (suc n) (y ∷ xs) zero x at = at
+get_taken (suc n) (y ∷ xs) (suc k) x at = get_taken n xs k x at
+
+some_at : {A : Type 0} (xs : List A) (k : ℕ) → k < length xs → (x : A) × (slice_get xs k ≡ Some x)
+some_at [] k less = absurd (omega (arith, less))
+some_at (x ∷ xs) zero less = (x, refl)
+some_at (x ∷ xs) (suc k) less = some_at xs k (omega (arith, less))
+
 -- the seat of a lane, as it is opened
 module _ (first : Standing) where
   abbrev new_seat : ℕ → SeatView
   new_seat k = newcomer (lane_seat first k) (moment 0 first)
 
-  ready_new : (now : ℕ) (lanes : List Lane) (k : ℕ) (replies : List LaneReply) (room : ℕ) → first.key.moment ≡ Some now → root_of first ≤ 64 * length first.history + 1 → k < 16
+  ready_new : (now : ℕ) (lanes : List Lane) (k : ℕ) (replies : List LaneReply) (room : ℕ) → first.key.moment ≡ Some now → root_of first ≤ 64 * length first.history + 1 → k < 32
       → ((i : ℕ) (c : LaneCommand) → slice_get (commands_at lanes k) i ≡ Some c → HasCommand first.key.rules c) → HasRoom (commands_at lanes k) replies room
       → IsReady now (commands_at lanes k) (new_seat k) replies room
   ready_new now lanes k replies room is low few numbers has = record {
@@ -122,8 +135,8 @@ module _ (first : Standing) where
 
   -- each row is ready
   module _ {R L : Type 0} (seat : R → SeatView) (mine : R → Type 0) (own : R → L) (items : L → List LaneReply) (room : L → ℕ) where
-    pub ready_each : (now : ℕ) (lanes : List Lane) (v : SeatView) (rows : List R) (lists : List L) → Starts first v → first.key.moment ≡ Some now → length lanes ≤ 16
-        → ((k i : ℕ) (c : LaneCommand) → slice_get (commands_at lanes k) i ≡ Some c → HasCommand first.key.rules c) → IsRoomFor lanes items room lists → map own rows ≡ lists
+    pub ready_each : (now : ℕ) (lanes : List Lane) (v : SeatView) (rows : List R) (lists : List L) → Starts first v → first.key.moment ≡ Some now → length lists ≤ 32
+        → ((k i : ℕ) (c : LaneCommand) → slice_get (commands_at lanes k) i ≡ Some c → HasCommand first.key.rules c) → HasRooms lanes items room lists → map own rows ≡ lists
         → ((k : ℕ) (r : R) → slice_get rows k ≡ Some r → mine r × OpenedAt v k (seat r)) → (k : ℕ) (d : R) → k < length rows
         → mine (slice_index_or rows k d) × IsReady now (commands_at lanes k) (seat (slice_index_or rows k d)) (items (own (slice_index_or rows k d))) (room (own (slice_index_or rows k d)))
     ready_each now lanes v rows lists starts is few numbers fits same each k d less =
@@ -132,12 +145,11 @@ module _ (first : Standing) where
         let opened = each k r at in
         let long = length-map rows own in
         let count : length (map own rows) ≡ length lists = ap (λ (l : List L). length l) same in
-        let lanes_are = fits.0 in
         let low = starts.low in
-        let has = fits.1 k (own r) (map_at own rows lists k r same at) in (
+        let has = fits k (own r) (map_at own rows lists k r same at) in (
           opened.0,
           subst (λ (z : SeatView). IsReady now (commands_at lanes k) z (items (own r)) (room (own r))) (sym (opened_at v (seat r) k starts.root_is opened.1))
-              (ready_new now lanes k (items (own r)) (room (own r)) is (omega (arith, low)) (omega (arith, less, long, count, lanes_are, few)) (λ i c there. numbers k i c there) has),
+              (ready_new now lanes k (items (own r)) (room (own r)) is (omega (arith, low)) (omega (arith, less, long, count, few)) (λ i c there. numbers k i c there) has),
         )
 
   -- what each row was answered
@@ -145,12 +157,12 @@ module _ (first : Standing) where
   RanAt now lanes k w replies starved = IsRun now (commands_at lanes k) (new_seat k) w replies starved
 
   module _ {R : Type 0} (seat : R → SeatView) (mine : R → Type 0) (replies : R → List LaneReply) (starved : R → Bool) where
-    pub ran_each : (now : ℕ) (lanes : List Lane) (v : SeatView) (old new : List R) → v ≡ rooted (root_of first) first → length new ≡ length old
+    pub ran_each : (now turns : ℕ) (lanes : List Lane) (v : SeatView) (old new : List R) → v ≡ rooted (root_of first) first → length new ≡ length old
         → ((k : ℕ) (r : R) → slice_get old k ≡ Some r → mine r × OpenedAt v k (seat r))
         → ((k : ℕ) (d : R) → k < length old → mine (slice_index_or new k d)
-        × IsRun now (commands_at lanes k) (seat (slice_index_or old k d)) (seat (slice_index_or new k d)) (replies (slice_index_or new k d)) (starved (slice_index_or new k d)))
+        × IsRowRun now turns lanes k (seat (slice_index_or old k d)) (seat (slice_index_or new k d)) (replies (slice_index_or new k d)) (starved (slice_index_or new k d)))
         → (k : ℕ) (r : R) → slice_get new k ≡ Some r → mine r × RanAt now lanes k (seat r) (replies r) (starved r)
-    ran_each now lanes v old new is long each run k r at =
+    ran_each now turns lanes v old new is long each run k r at =
         let within = slice_get_within new k r at in
         let less : k < length old = omega (arith, within, long) in
         let o = slice_index_or old k r in
@@ -158,14 +170,14 @@ module _ (first : Standing) where
         let here : slice_index_or new k r ≡ r = get_or_from_slice_get new k r r at in
         let was : seat o ≡ new_seat k = opened_at v (seat o) k is (each k o (slice_get-get_or old k r less)).1 in
         subst (λ (z : R). mine z × RanAt now lanes k (seat z) (replies z) (starved z)) here
-        (did.0, subst (λ (z : SeatView). IsRun now (commands_at lanes k) z (seat (slice_index_or new k r)) (replies (slice_index_or new k r)) (starved (slice_index_or new k r))) was did.1)
+        (did.0, subst (λ (z : SeatView). IsRun now (commands_at lanes k) z (seat (slice_index_or new k r)) (replies (slice_index_or new k r)) (starved (slice_index_or new k r))) was did.1.run)
 
-    module _ (now : ℕ) (lanes : List Lane) (last : Standing) (v w : SeatView) (rows : List R) (seats : List SeatView) (outs : List LaneOut)
-        (starts : Starts first v) (count : length rows ≡ length lanes) (root : w ≡ has_next v (length lanes)) (seats_are : seats ≡ map seat rows)
-        (outs_are : map (λ out. out.replies) outs ≡ map replies rows) (ran : (k : ℕ) (r : R) → slice_get rows k ≡ Some r → mine r × RanAt now lanes k (seat r) (replies r) (starved r))
+    module _ (now : ℕ) (lanes : List Lane) (last : Standing) (v w : SeatView) (rows : List R) (seats : List SeatView) (outs fronts : List LaneOut)
+        (starts : Starts first v) (many : ℕ) (count : length rows ≡ many) (few : length lanes ≤ many) (root : w ≡ has_next v many) (seats_are : seats ≡ map seat rows)
+        (outs_are : map (λ out. out.replies) outs ≡ map replies rows) (front : fronts ≡ take (length lanes) outs) (ran : (k : ℕ) (r : R) → slice_get rows k ≡ Some r → mine r × RanAt now lanes k (seat r) (replies r) (starved r))
         (closed : Closed first w seats last) where
-      root_is : w ≡ has_next (rooted (root_of first) first) (length lanes)
-      root_is = root ∙ ap (λ (z : SeatView). has_next z (length lanes)) starts.root_is
+      root_is : w ≡ has_next (rooted (root_of first) first) many
+      root_is = root ∙ ap (λ (z : SeatView). has_next z many) starts.root_is
 
       told_at : (k : ℕ) (r : R) → slice_get rows k ≡ Some r → LaneTold last now (lane_seat first k) (made_by seat_of (lane_seat first k) last.history) (commands_at lanes k) (replies r)
       told_at k r at =
@@ -177,6 +189,16 @@ module _ (first : Standing) where
           subst (λ (es : List Entry). LaneTold last now (lane_seat first k) es (commands_at lanes k) (replies r)) made
           (told_later now (lane_seat first k) (commands_at lanes k) s.seen.state last s.made (replies r) (closed.later k s there) run.told)
 
+      -- a worker's seat made no entry
+      made_none : (n : ℕ) → lane_seat first (length lanes) ≤ n → n < lane_seat first many → made_by seat_of n last.history ≡ []
+      made_none n above below =
+          let k = n - (root_of first + 1) in
+          let at : lane_seat first k ≡ n = omega (arith, above) in
+          let row = some_at rows k (omega (arith, above, below, count)) in
+          let none = commands_past lanes k (omega (arith, above)) in
+          subst (λ (m : ℕ). made_by seat_of m last.history ≡ []) at
+          (told_nothing last now (lane_seat first k) (made_by seat_of (lane_seat first k) last.history) (commands_at lanes k) (replies row.0) none (told_at k row.0 row.1))
+
       others : (n : ℕ) → (n ≤ root_of first) ⊎ (lane_seat first (length lanes) ≤ n) → made_by seat_of n last.history ≡ made_by seat_of n first.history
       others n where_is = ⊎_elim
           (λ below. ⊎_elim
@@ -186,10 +208,16 @@ module _ (first : Standing) where
           subst (λ (m : ℕ). made_by seat_of m last.history ≡ made_by seat_of m first.history) here
           (subst (λ (z : SeatView). made_by seat_of z.number last.history ≡ z.made) root_is closed.own ∙ sym (starts.fresh (root_of first) (omega arith))))
           (cases_lt n (root_of first)))
-          (λ above. closed.unborn n (subst (λ (z : SeatView). z.next ≤ n) (sym root_is) (omega (arith, above))) ∙ sym (starts.fresh n (omega (arith, above))))
+          (λ above. ⊎_elim
+          (λ worker. made_none n above worker ∙ sym (starts.fresh n (omega (arith, above))))
+          (λ past. closed.unborn n (subst (λ (z : SeatView). z.next ≤ n) (sym root_is) (omega (arith, past))) ∙ sym (starts.fresh n (omega (arith, above))))
+          (cases_lt n (lane_seat first many)))
           where_is
 
-      pub ran_all : (fed : Bool) → (fed ≡ true → (k : ℕ) (r : R) → slice_get rows k ≡ Some r → starved r ≡ false) → RanLanes first last now lanes outs fed
+      in_front : (k : ℕ) (out : LaneOut) → slice_get fronts k ≡ Some out → slice_get outs k ≡ Some out
+      in_front k out at = get_taken (length lanes) outs k out (ap (λ (l : List LaneOut). slice_get l k) (sym front) ∙ at)
+
+      pub ran_all : (fed : Bool) → (fed ≡ true → (k : ℕ) (r : R) → slice_get rows k ≡ Some r → starved r ≡ false) → RanLanes first last now lanes fronts fed
       ran_all fed each = record {
         has = record {
           later = subst (λ (z : SeatView). Follows last z.seen.state) root_is closed.first;
@@ -197,12 +225,16 @@ module _ (first : Standing) where
           fresh = starts.fresh;
           others = others;
         };
-        count = let a = length-map outs (λ out. out.replies) in let b = length-map rows replies in let c = ap (λ (l : List (List LaneReply)). length l) outs_are in omega (arith, a, b, c, count);
+        count =
+            let a = length-map outs (λ out. out.replies) in
+            let b = length-map rows replies in
+            let c = ap (λ (l : List (List LaneReply)). length l) outs_are in
+            ap (λ (l : List LaneOut). length l) front ∙ length-take-le (length lanes) outs (omega (arith, a, b, c, count, few));
         told = λ k out at.
-            let row = other_at (λ (o : LaneOut). o.replies) replies outs rows k out outs_are at in
+            let row = other_at (λ (o : LaneOut). o.replies) replies outs rows k out outs_are (in_front k out at) in
             subst (λ (rs : List LaneReply). LaneTold last now (lane_seat first k) (made_by seat_of (lane_seat first k) last.history) (commands_at lanes k) rs) row.2 (told_at k row.0 row.1);
         end = λ is k out at.
-            let row = other_at (λ (o : LaneOut). o.replies) replies outs rows k out outs_are at in
+            let row = other_at (λ (o : LaneOut). o.replies) replies outs rows k out outs_are (in_front k out at) in
             subst (λ (rs : List LaneReply). Ended (commands_at lanes k) rs) row.2 ((ran k row.0 row.1).1.end (each is k row.0 row.1));
       }
 
@@ -214,11 +246,32 @@ at_moment first st key v w seats n now starts root is closed =
     let same : closed.0 ≡ Some now = sym (key closed.0) ∙ (ap (λ (k : Key). k.moment) closed.1.first.key ∙ (ap (λ (s : Standing). s.key.moment) seen ∙ is)) in
     subst (λ (m : Option ℕ). Closed first w seats (st m)) same closed.1
 
-pub moved_moment : (st : Option ℕ → Standing) (last : Standing) (m n : Option ℕ) → m ≡ n → IsBehind last (st m) → IsBehind last (st n)
-moved_moment st last m n same h = subst (λ (z : Option ℕ). IsBehind last (st z)) same h
+-- where no lane was left, none is left behind the last steps
+pub still_none : (last s : Standing) → last.lanes ≡ 0 → IsBehind last s → s.lanes ≡ 0
+still_none last s none h = let le = h.later.lanes in omega (arith, le, none)
 
-pub moved_rests : (st : Option ℕ → Standing) (now : ℕ) (m n : Option ℕ) → m ≡ n → Rests (st m) now → Rests (st n) now
-moved_rests st now m n same h = subst (λ (z : Option ℕ). Rests (st z) now) same h
+module _ (st : Option ℕ → ℕ → Standing) (m n : Option ℕ) (k : ℕ) (same : m ≡ n) (none : k ≡ 0) where
+  pub moved_behind : (last : Standing) → IsBehind last (st m k) → IsBehind last (st n 0)
+  moved_behind last h = subst (λ (z : Option ℕ). IsBehind last (st z 0)) same (subst (λ (i : ℕ). IsBehind last (st m i)) none h)
+
+  pub moved_rests : (now : ℕ) → Rests (st m k) now → Rests (st n 0) now
+  moved_rests now h = subst (λ (z : Option ℕ). Rests (st z 0) now) same (subst (λ (i : ℕ). Rests (st m i) now) none h)
+
+-- the lanes of a block, in words of the book that began it
+pub ran_laneless : (first last : Standing) (now : ℕ) (lanes : List Lane) (outs : List LaneOut) (fed : Bool) → last.lanes ≡ 0 → RanLanes first last now lanes outs fed → RanLanes (laneless first) last now lanes outs fed
+ran_laneless first last now lanes outs fed none h =
+    let later = h.has.later in
+    record {
+      has = record {
+        later = record { history = later.history; dated = later.dated; faults = later.faults; cause = later.cause; down = later.down; lanes = omega (arith, none); key = later.key };
+        legal = h.has.legal;
+        fresh = h.has.fresh;
+        others = h.has.others;
+      };
+      count = h.count;
+      told = h.told;
+      end = h.end;
+    }
 
 -- the steps behind the lanes
 module _ (first last final : Standing) (behind : IsBehind last final) where

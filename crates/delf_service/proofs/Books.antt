@@ -31,21 +31,21 @@ use Rattle.delf_service.specs.declared.standing.DiskKind.{DiskKind}
 use Rattle.delf_service.specs.declared.standing.Standing.{Standing}
 use Rattle.delf_service.specs.Asks.{ReadsIn}
 use Rattle.delf_service.specs.Calls.{AnswersIn, Falls, IsDown, entry_in, with_entry}
-use Rattle.delf_service.specs.Standings.{kind_of, standing_of}
+use Rattle.delf_service.specs.Standings.{kind_of, standing_in}
 use Rattle.delf_service.specs.Works.{StepsIn}
 use Rattle.delf_service.proofs.Tags.{reply_maker, step_maker}
 
 -- a standing by its parts
-abbrev parts : List Entry → ℕ → Bool → RuleSet → DiskKind → Option ℕ → Standing
-parts h f d r k m = record { history = h; faults = f; down = d; key = record { rules = r; moment = m; disk = k } }
+abbrev parts : List Entry → ℕ → Bool → RuleSet → DiskKind → Option ℕ → ℕ → Standing
+parts h f d r k m n = record { history = h; faults = f; down = d; lanes = n; key = record { rules = r; moment = m; disk = k } }
 
-same_parts : (h h' : List Entry) (f f' : ℕ) (d d' : Bool) (r r' : RuleSet) (k k' : DiskKind) (m : Option ℕ) → h ≡ h' → f ≡ f' → d ≡ d' → r ≡ r' → k ≡ k'
-    → parts h f d r k m ≡ parts h' f' d' r' k' m
-same_parts h h' f f' d d' r r' k k' m p q s t u =
-    ap (λ (x : List Entry). parts x f d r k m) p
-    ∙ (ap (λ (x : ℕ). parts h' x d r k m) q
-    ∙ (ap (λ (x : Bool). parts h' f' x r k m) s
-    ∙ (ap (λ (x : RuleSet). parts h' f' d' x k m) t ∙ ap (λ (x : DiskKind). parts h' f' d' r' x m) u)))
+same_parts : (h h' : List Entry) (f f' : ℕ) (d d' : Bool) (r r' : RuleSet) (k k' : DiskKind) (m : Option ℕ) (n : ℕ) → h ≡ h' → f ≡ f' → d ≡ d' → r ≡ r' → k ≡ k'
+    → parts h f d r k m n ≡ parts h' f' d' r' k' m n
+same_parts h h' f f' d d' r r' k k' m n p q s t u =
+    ap (λ (x : List Entry). parts x f d r k m n) p
+    ∙ (ap (λ (x : ℕ). parts h' x d r k m n) q
+    ∙ (ap (λ (x : Bool). parts h' f' x r k m n) s
+    ∙ (ap (λ (x : RuleSet). parts h' f' d' x k m n) t ∙ ap (λ (x : DiskKind). parts h' f' d' r' x m n) u)))
 
 abbrev kind : Bool → Bool → Order → ℕ → DiskKind
 kind a b o n = record { told = a; honest = b; order = o; orders = n }
@@ -68,26 +68,26 @@ turned_by (Ok (worked.Stepped position)) = Ok (turned.Stepped position)
 turned_by (Ok (worked.Idle len)) = Ok (turned.Idle len)
 turned_by (Err why) = Err why
 
-module _ {G R : Type 0} (told honest : R → Bool) (order : R → Order) (orders faults : R → ℕ) (m : Option ℕ) (old now : Booked G R) where
+module _ {G R : Type 0} (told honest : R → Bool) (order : R → Order) (orders faults : R → ℕ) (m : Option ℕ) (n : ℕ) (old now : Booked G R) where
   abbrev x : Standing
-  x = standing_of told honest order orders faults old m
+  x = standing_in told honest order orders faults old m n
 
   abbrev y : Standing
-  y = standing_of told honest order orders faults now m
+  y = standing_in told honest order orders faults now m n
 
   unchanged : now ≡ old → y ≡ x
-  unchanged same = ap (λ (b : Booked G R). standing_of told honest order orders faults b m) same
+  unchanged same = ap (λ (b : Booked G R). standing_in told honest order orders faults b m n) same
 
   grew : (e : Entry) → old.down ≡ false → Grew old now e → faults now.rig ≡ faults old.rig → SameKind told honest order orders old.rig now.rig → y ≡ with_entry x e
-  grew e up g count kept = same_parts now.history (old.history ++ e ∷ []) (faults now.rig) (faults old.rig) now.down old.down now.rules old.rules (kind_of told honest order orders now.rig) (kind_of told honest order orders old.rig) m g.history count (g.up ∙ sym up) g.rules (same_kind told honest order orders old.rig now.rig kept)
+  grew e up g count kept = same_parts now.history (old.history ++ e ∷ []) (faults now.rig) (faults old.rig) now.down old.down now.rules old.rules (kind_of told honest order orders now.rig) (kind_of told honest order orders old.rig) m n g.history count (g.up ∙ sym up) g.rules (same_kind told honest order orders old.rig now.rig kept)
 
   stayed : Stayed old now → y ≡ x
-  stayed s = same_parts now.history old.history (faults now.rig) (faults old.rig) now.down old.down now.rules old.rules (kind_of told honest order orders now.rig) (kind_of told honest order orders old.rig) m s.history (ap faults s.rig) s.down s.rules (ap (kind_of told honest order orders) s.rig)
+  stayed s = same_parts now.history old.history (faults now.rig) (faults old.rig) now.down old.down now.rules old.rules (kind_of told honest order orders now.rig) (kind_of told honest order orders old.rig) m n s.history (ap faults s.rig) s.down s.rules (ap (kind_of told honest order orders) s.rig)
 
   fell : (beside : Option Interrupted) → old.down ≡ false → Fell old now beside → (faults old.rig ≤ faults now.rig) × Rose (faults old.rig) (faults now.rig) → SameKind told honest order orders old.rig now.rig → Falls x y
   fell beside up f count kept = record {
     up = up;
-    left = same_parts now.history old.history (faults now.rig) (faults now.rig) now.down true now.rules old.rules (kind_of told honest order orders now.rig) (kind_of told honest order orders old.rig) m f.history refl f.down f.rules (same_kind told honest order orders old.rig now.rig kept);
+    left = same_parts now.history old.history (faults now.rig) (faults now.rig) now.down true now.rules old.rules (kind_of told honest order orders now.rig) (kind_of told honest order orders old.rig) m n f.history refl f.down f.rules (same_kind told honest order orders old.rig now.rig kept);
     later = count.0;
     rose = count.1;
   }
@@ -119,7 +119,7 @@ module _ {G R : Type 0} (told honest : R → Bool) (order : R → Order) (orders
 
   only_rig : OnlyRig old now → faults now.rig ≡ faults old.rig → SameKind told honest order orders old.rig now.rig → y ≡ x
   only_rig o count kept =
-      same_parts now.history old.history (faults now.rig) (faults old.rig) now.down old.down now.rules old.rules (kind_of told honest order orders now.rig) (kind_of told honest order orders old.rig) m (ap (λ (b : Booked G R). b.history) o) count
+      same_parts now.history old.history (faults now.rig) (faults old.rig) now.down old.down now.rules old.rules (kind_of told honest order orders now.rig) (kind_of told honest order orders old.rig) m n (ap (λ (b : Booked G R). b.history) o) count
       (ap (λ (b : Booked G R). b.down) o) (ap (λ (b : Booked G R). b.rules) o) (same_kind told honest order orders old.rig now.rig kept)
 
   pub reads_in : {T : Type 0} (row : ObjectRow × Option ℕ) (r : Result T BookFault) (fault : Option BookFault) → ReadAnswers old now r → CountsFault (faults old.rig) (faults now.rig) r
@@ -150,7 +150,7 @@ module _ {G R : Type 0} (told honest : R → Bool) (order : R → Order) (orders
     logged = h.logged;
     puts = h.puts;
     differ = h.differ;
-    same = same_parts now.history old.history (faults now.rig) (faults old.rig) now.down old.down now.rules old.rules (kind_of told honest order orders now.rig) (kind_of told honest order orders old.rig) m
+    same = same_parts now.history old.history (faults now.rig) (faults old.rig) now.down old.down now.rules old.rules (kind_of told honest order orders now.rig) (kind_of told honest order orders old.rig) m n
         (ap (λ (b : Booked G R). b.history) h.rest) count (ap (λ (b : Booked G R). b.down) h.rest) (ap (λ (b : Booked G R). b.rules) h.rest)
         (same_kind told honest order orders old.rig now.rig kept);
   }

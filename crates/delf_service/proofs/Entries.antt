@@ -1,5 +1,5 @@
 -- A history with one entry more: who made what, and what follows.
-use Rattle.std.proofs.Common.{◌≡◌, ◌≢◌, ℕ, Bool, false, cond, List, [], ◌∷◌, ◌++◌, length, take, Option, Some, None, refl, sym, ap, ◌∙◌, subst, arith, eq-eqb, ne_eqb, append-nil, length-append, inl, inr}
+use Rattle.std.proofs.Common.{◌≡◌, ◌≢◌, ◌≤◌, ℕ, Bool, false, cond, List, [], ◌∷◌, ◌++◌, length, take, Option, Some, None, refl, sym, ap, ◌∙◌, subst, arith, eq-eqb, ne_eqb, append-nil, length-append, inl, inr}
 use Rattle.std.specs.Prelude.{slice_get}
 use Rattle.std.proofs.Math.Seq.{take-append_seam}
 use Rattle.std.proofs.lemmas.List.Elements.{filter-append}
@@ -12,7 +12,7 @@ use Rattle.delf_service.specs.declared.standing.Standing.{Standing}
 use Rattle.delf_service.specs.Calls.{entry_in, with_entry, Falls}
 use Rattle.delf_service.specs.Follows.{FitsFrom, IsDated, Follows, IsMoment}
 use Rattle.delf_service.specs.FollowLaws.{Follows-itself, fits_itself}
-use Rattle.delf_service.specs.Standings.{seat_of}
+use Rattle.delf_service.specs.Standings.{seat_of, laneless}
 
 made_push : (k : ℕ) (h : List Entry) (e : Entry) → made_by seat_of k (h ++ e ∷ []) ≡ made_by seat_of k h ++ cond (is_maker k (seat_of e)) (e ∷ []) []
 made_push k h e = filter-append (λ (x : Entry). is_maker k (seat_of x)) h (e ∷ [])
@@ -56,6 +56,7 @@ module _ (x : Standing) where
     faults = omega arith;
     cause = λ down. inl down;
     down = λ down. absurd (cc (up, down));
+    lanes = omega arith;
     key = refl;
   }
 
@@ -66,6 +67,7 @@ module _ (x : Standing) where
     faults = falls.later;
     cause = λ down. inr falls.rose;
     down = λ down. absurd (cc (falls.up, down));
+    lanes = omega arith;
     key = refl;
   })
 
@@ -74,3 +76,22 @@ module _ (x : Standing) where
 
   pub falls_history : (y : Standing) → Falls x y → y.history ≡ x.history
   falls_history y falls = ap (λ (z : Standing). z.history) falls.left
+
+  -- fewer lanes are left
+  pub fewer_follows : (n : ℕ) → n ≤ x.lanes → Follows (record x { lanes = n }) x
+  fewer_follows n le = record {
+    history = StartsWith-itself x.history;
+    dated = λ m same. fits_itself (IsDated x.key.rules m) x.history;
+    faults = omega arith;
+    cause = λ down. inl down;
+    down = λ down. (down, refl);
+    lanes = le;
+    key = refl;
+  }
+
+  pub laneless_follows : Follows (laneless x) x
+  laneless_follows = fewer_follows 0 (omega arith)
+
+-- what follows, where no lane is left any more on both sides
+pub laneless_both : (s t : Standing) → Follows s t → Follows (laneless s) (laneless t)
+laneless_both s t h = record { history = h.history; dated = h.dated; faults = h.faults; cause = h.cause; down = h.down; lanes = omega arith; key = h.key }

@@ -13,7 +13,8 @@ use Rattle.delf_service.specs.declared.standing.Standing.{Standing}
 use Rattle.delf_service.specs.Follows.{Follows}
 use Rattle.delf_service.specs.FollowLaws.{Follows-itself, Follows-chain}
 use Rattle.delf_service.specs.Seats.{pair_of, JoinedTo, Closed}
-use Rattle.delf_service.specs.Standings.{seat_of}
+use Rattle.delf_service.specs.Standings.{seat_of, laneless}
+use Rattle.delf_service.proofs.Entries.{laneless_follows}
 use Rattle.delf_service.proofs.Places.{push_cases}
 
 abbrev SeatView : Type 0
@@ -110,3 +111,16 @@ module _ {T : Type 0} (st : T → Standing) (start : Standing) where
   } where
     kept : (p : ℕ × List Entry) → Contains (v0.joined ++ map pair_of ws) p → Contains v.joined p
     kept p there = subst (λ (l : List (ℕ × List Entry)). Contains l p) (sym h.joined_is) there
+
+-- an end at which no lane is left any more
+pub closed_laneless : (start : Standing) (v : SeatView) (ws : List SeatView) (end : Standing) → Closed start v ws end → Closed start v ws (laneless end)
+closed_laneless start v ws end h = record {
+  legal = h.legal;
+  first = Follows-chain (laneless end) end v.seen.state (laneless_follows end) h.first;
+  later = λ k w at. Follows-chain (laneless end) end w.seen.state (laneless_follows end) (h.later k w at);
+  own = h.own;
+  made = h.made;
+  joined = h.joined;
+  elder = h.elder;
+  unborn = h.unborn;
+}

@@ -91,6 +91,15 @@ module _ (now seat : ℕ) (commands : List LaneCommand) where
     made_is = none;
   }
 
+-- a lane with no commands made no entry
+pub told_nothing : (s : Standing) (now seat : ℕ) (made : List Entry) (commands : List LaneCommand) (rs : List LaneReply) → commands ≡ [] → LaneTold s now seat made commands rs → made ≡ []
+told_nothing s now seat made commands [] none h = h.made_is
+told_nothing s now seat made commands (r ∷ rs) none h =
+    let told = h.told 0 r refl in
+    let there = told.1 in
+    let nothing : slice_get commands 0 ≡ None = ap (λ (l : List LaneCommand). slice_get l 0) none in
+    absurd (cc (there, nothing))
+
 -- a book that would have been found down was up
 not_down : (b : Bool) → (b ≡ true → ⊥) → b ≡ false
 not_down true h = absurd (h refl)

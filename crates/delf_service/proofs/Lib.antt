@@ -6,6 +6,8 @@ pub mod Joining
 pub mod Lanes
 pub mod Numbers
 pub mod Places
+pub mod Runs
 pub mod Tags
 pub mod Tellings
 pub mod Turns
+pub mod Workers

@@ -38,6 +38,7 @@ Follows-itself s = record {
   faults = omega arith;
   cause = λ down. inl down;
   down = λ down. (down, refl);
+  lanes = omega arith;
   key = refl;
 }
 
@@ -59,6 +60,7 @@ Follows-chain s t u p q = record {
       (λ rose. inr (rose_later u.faults t.faults s.faults q.faults rose))
       (p.cause down);
   down = λ down. let first = q.down down in let then = p.down first.0 in (then.0, then.1 ∙ first.1);
+  lanes = let a = p.lanes in let b = q.lanes in omega (arith, a, b);
   key = p.key ∙ q.key;
 }
 

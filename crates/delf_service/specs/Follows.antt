@@ -19,13 +19,14 @@ IsDated rules now before e = e.moment ≡ moment_of (after rules before) now
 
 -- The first standing is the second one or may come after it: the history begins with the other's, each entry behind the
 -- other's length has the moment of its place, the count of faults is no less, a book is down only where it was or where
--- the count rose and stays so with its history, and the key is the same.
+-- the count rose and stays so with its history, no more lanes are left, and the key is the same.
 pub record Follows (s t : Standing) : Type 0 where
   pub history : StartsWith s.history t.history
   pub dated : (now : ℕ) → s.key.moment ≡ Some now → FitsFrom (IsDated s.key.rules now) (length t.history) s.history
   pub faults : t.faults ≤ s.faults
   pub cause : s.down ≡ true → (t.down ≡ true) ⊎ Rose t.faults s.faults
   pub down : t.down ≡ true → (s.down ≡ true) × (s.history ≡ t.history)
+  pub lanes : s.lanes ≤ t.lanes
   pub key : s.key ≡ t.key
 
 -- this is the moment that each call hands in, where all hand in one

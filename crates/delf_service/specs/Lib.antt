@@ -8,4 +8,5 @@ pub mod Openings
 pub mod Rows
 pub mod Seats
 pub mod Standings
+pub mod Workers
 pub mod Works

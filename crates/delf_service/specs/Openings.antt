@@ -25,9 +25,9 @@ has_next v count = record v { next = v.next + count }
 abbrev pub OpenedAt : View Standing Entry → ℕ → View Standing Entry → Type 0
 OpenedAt v place w = w ≡ newcomer (v.next + place) v.seen
 
--- one list to each lane, with no replies and room for all
-abbrev pub IsRoomFor : {L : Type 0} → List Lane → (L → List LaneReply) → (L → ℕ) → List L → Type 0
-IsRoomFor {L} lanes items room lists = (length lists ≡ length lanes) × ((k : ℕ) (l : L) → slice_get lists k ≡ Some l → HasRoom (commands_at lanes k) (items l) (room l))
+-- each list is empty, with room for all that the lane at its place is answered
+abbrev pub HasRooms : {L : Type 0} → List Lane → (L → List LaneReply) → (L → ℕ) → List L → Type 0
+HasRooms {L} lanes items room lists = (k : ℕ) (l : L) → slice_get lists k ≡ Some l → HasRoom (commands_at lanes k) (items l) (room l)
 
 -- the lanes were run, and their seats are joined
 pub record RanLanes (first last : Standing) (now : ℕ) (lanes : List Lane) (outs : List LaneOut) (fed : Bool) : Type 0 where

@@ -1,5 +1,5 @@
--- A row: a seat and the replies of its lane, before its lane is run and after.
-use Rattle.std.specs.Prelude.{◌≡◌, ◌≤◌, ℕ, ◌+◌, ◌*◌, Bool, false, List, [], Option, Some, None, length, slice_get}
+-- A row: a seat and the replies of its lane, before it is run and after. Past the lanes it is a worker's.
+use Rattle.std.specs.Prelude.{◌≡◌, ◌<◌, ◌≤◌, ℕ, ◌+◌, ◌*◌, Bool, false, List, [], Option, Some, None, length, slice_get}
 use Rattle.delf_model.specs.declared.entry.Entry.{Entry}
 use Rattle.delf_model.specs.declared.script.Lane.{Lane}
 use Rattle.delf_model.specs.declared.script.LaneCommand.{LaneCommand}
@@ -9,6 +9,7 @@ use Rattle.delf_service.specs.declared.replies.LaneReply.{LaneReply}
 use Rattle.delf_service.specs.declared.standing.Standing.{Standing}
 use Rattle.delf_service.specs.Follows.{Follows, IsMoment}
 use Rattle.delf_service.specs.Lanes.{HasCommand, LaneTold, Ended}
+use Rattle.delf_service.specs.Workers.{LeavesOne, WorkerDone}
 
 abbrev pub commands_in : Option Lane → List LaneCommand
 commands_in None = []
@@ -33,3 +34,9 @@ pub record IsRun (now : ℕ) (commands : List LaneCommand) (v w : View Standing 
   pub later : Follows w.seen.state v.seen.state
   pub told : LaneTold w.seen.state now v.number w.made commands replies
   pub end : starved ≡ false → Ended commands replies
+
+-- what the row at this place came to: that of a lane said that it is over, and that of a worker made its turns
+pub record IsRowRun (now turns : ℕ) (lanes : List Lane) (place : ℕ) (v w : View Standing Entry) (replies : List LaneReply) (starved : Bool) : Type 0 where
+  pub run : IsRun now (commands_at lanes place) v w replies starved
+  pub lane : place < length lanes → (last : Standing) × Follows last v.seen.state × LeavesOne last w.seen.state
+  pub worker : length lanes ≤ place → WorkerDone now turns v.seen.state w.seen.state

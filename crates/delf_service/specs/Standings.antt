@@ -26,14 +26,23 @@ state_at s = after s.key.rules s.history
 abbrev pub kind_of : {R : Type 0} → (R → Bool) → (R → Bool) → (R → Order) → (R → ℕ) → R → DiskKind
 kind_of told honest order orders rig = record { told = told rig; honest = honest rig; order = order rig; orders = orders rig }
 
--- a book as it stands, where each call hands in this moment
-abbrev pub standing_of : {G R : Type 0} → (R → Bool) → (R → Bool) → (R → Order) → (R → ℕ) → (R → ℕ) → Booked G R → Option ℕ → Standing
-standing_of told honest order orders faults book moment = record {
+-- a book as it stands, where each call hands in this moment and so many lanes of a block are left
+abbrev pub standing_in : {G R : Type 0} → (R → Bool) → (R → Bool) → (R → Order) → (R → ℕ) → (R → ℕ) → Booked G R → Option ℕ → ℕ → Standing
+standing_in told honest order orders faults book moment lanes = record {
   history = book.history;
   faults = faults book.rig;
   down = book.down;
+  lanes = lanes;
   key = record { rules = book.rules; moment = moment; disk = kind_of told honest order orders book.rig };
 }
+
+-- the same where no lane is left
+abbrev pub standing_of : {G R : Type 0} → (R → Bool) → (R → Bool) → (R → Order) → (R → ℕ) → (R → ℕ) → Booked G R → Option ℕ → Standing
+standing_of told honest order orders faults book moment = standing_in told honest order orders faults book moment 0
+
+-- no lane is left any more
+abbrev pub laneless : Standing → Standing
+laneless s = record s { lanes = 0 }
 
 -- any one
 abbrev pub blank_standing : Standing
@@ -41,5 +50,6 @@ blank_standing = record {
   history = [];
   faults = 0;
   down = false;
+  lanes = 0;
   key = record { rules = record { window = 0; objects = []; edges = [] }; moment = None; disk = record { told = false; honest = false; order = CutPower 0; orders = 0 } };
 }

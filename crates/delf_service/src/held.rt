@@ -1,7 +1,7 @@
 //! The book as the turn lock guards it, and what one turn does to it.
-ghost use Rattle.std.specs.Prelude.{◌≡◌, ◌*◌, ◌+◌, ◌≤◌, Some, OnOk, length};
+ghost use Rattle.std.specs.Prelude.{◌≡◌, ◌*◌, ◌+◌, ◌-◌, ◌≤◌, Some, OnOk, length};
 ghost use Rattle.delf_book.specs.Books.{HasNumbers};
-ghost use Rattle.delf_service.specs.Standings.{seat_of, standing_of, blank_standing};
+ghost use Rattle.delf_service.specs.Standings.{seat_of, standing_in, blank_standing};
 ghost use Rattle.delf_service.specs.Follows.{Follows};
 ghost use Rattle.delf_service.specs.FollowLaws.{Follows-itself, Follows-chain, Follows-grows};
 ghost use Rattle.delf_service.specs.Calls.{CallsIn};
@@ -17,11 +17,13 @@ use delf_model::{Call, Entry, GraphStore, LIMIT, Moment, ObjectId};
 use seat_lock::Counted;
 use std::alloc::AllocError;
 
-/// A book under the lock, with the moment that each call hands in, where all hand in one.
+/// A book under the lock, with the moment that each call hands in, where all hand in one, and how many lanes of a block
+/// are left.
 #[derive(Drop)]
 pub struct Held<G: GraphStore, R: Rig> {
     pub(crate) book: Book<G, R>,
     pub(crate) moment: Option<Moment>,
+    pub(crate) lanes: u8,
 }
 
 impl<G: GraphStore, R: Rig> Counted for Held<G, R> {
@@ -29,7 +31,7 @@ impl<G: GraphStore, R: Rig> Counted for Held<G, R> {
 
     type Entry = Entry;
 
-    ghost state = { λ h. standing_of R.Disk.told R.Disk.honest R.Disk.order R.Disk.orders R.Disk.faults h.book h.moment };
+    ghost state = { λ h. standing_in R.Disk.told R.Disk.honest R.Disk.order R.Disk.orders R.Disk.faults h.book h.moment h.lanes };
 
     ghost blank = { blank_standing };
 
@@ -55,7 +57,7 @@ impl<G: GraphStore, R: Rig> Held<G, R> {
     pub(crate) fn submit(&mut self, now: Moment, seat: u32, call: &Call) -> Answer
         requires numbers { HasNumbers self.old.book.rules call.now }
         requires seat { seat ≤ 64 * (length self.old.book.history + 1) }
-        ensures { CallsIn (standing_of R.Disk.told R.Disk.honest R.Disk.order R.Disk.orders R.Disk.faults self.old.book self.old.moment) (standing_of R.Disk.told R.Disk.honest R.Disk.order R.Disk.orders R.Disk.faults self.new.book self.new.moment) now seat call.now result }
+        ensures { CallsIn (standing_in R.Disk.told R.Disk.honest R.Disk.order R.Disk.orders R.Disk.faults self.old.book self.old.moment self.old.lanes) (standing_in R.Disk.told R.Disk.honest R.Disk.order R.Disk.orders R.Disk.faults self.new.book self.new.moment self.new.lanes) now seat call.now result }
     {
         let at = self.book.len();
         let reply = self.book.call(now, seat, call);
@@ -64,7 +66,7 @@ impl<G: GraphStore, R: Rig> Held<G, R> {
 
     // The object with its owner, and its payload, at the front of the bytes.
     pub(crate) fn ask(&mut self, id: ObjectId) -> (Asked, [u8; LIMIT])
-        ensures { AsksIn (standing_of R.Disk.told R.Disk.honest R.Disk.order R.Disk.orders R.Disk.faults self.old.book self.old.moment) (standing_of R.Disk.told R.Disk.honest R.Disk.order R.Disk.orders R.Disk.faults self.new.book self.new.moment) id result.0 }
+        ensures { AsksIn (standing_in R.Disk.told R.Disk.honest R.Disk.order R.Disk.orders R.Disk.faults self.old.book self.old.moment self.old.lanes) (standing_in R.Disk.told R.Disk.honest R.Disk.order R.Disk.orders R.Disk.faults self.new.book self.new.moment self.new.lanes) id result.0 }
     {
         let mut bytes = [0; LIMIT];
         let at = self.book.len();
@@ -78,7 +80,7 @@ impl<G: GraphStore, R: Rig> Held<G, R> {
 
     // A step of a worker.
     pub(crate) fn work(&mut self, now: Moment) -> Result<Turned, StepFault>
-        ensures { TurnsIn (standing_of R.Disk.told R.Disk.honest R.Disk.order R.Disk.orders R.Disk.faults self.old.book self.old.moment) (standing_of R.Disk.told R.Disk.honest R.Disk.order R.Disk.orders R.Disk.faults self.new.book self.new.moment) now result }
+        ensures { TurnsIn (standing_in R.Disk.told R.Disk.honest R.Disk.order R.Disk.orders R.Disk.faults self.old.book self.old.moment self.old.lanes) (standing_in R.Disk.told R.Disk.honest R.Disk.order R.Disk.orders R.Disk.faults self.new.book self.new.moment self.new.lanes) now result }
     {
         let _len = self.book.len();
         match self.book.work(now) {
@@ -88,12 +90,28 @@ impl<G: GraphStore, R: Rig> Held<G, R> {
         }
     }
 
+    // A step of a worker of a block, and how many lanes are left.
+    pub(crate) fn turn(&mut self, now: Moment) -> (Result<Turned, StepFault>, u8)
+        ensures step { TurnsIn (standing_in R.Disk.told R.Disk.honest R.Disk.order R.Disk.orders R.Disk.faults self.old.book self.old.moment self.old.lanes) (standing_in R.Disk.told R.Disk.honest R.Disk.order R.Disk.orders R.Disk.faults self.new.book self.new.moment self.new.lanes) now result.0 }
+        ensures lanes { result.1 ≡ self.new.lanes }
+    {
+        let outcome = self.work(now);
+        (outcome, self.lanes)
+    }
+
+    // One lane less is left.
+    pub(crate) fn leave(&mut self)
+        ensures { (self.new.book ≡ self.old.book) × (self.new.moment ≡ self.old.moment) × (self.new.lanes ≡ self.old.lanes - 1) }
+    {
+        self.lanes = self.lanes.saturating_sub(1);
+    }
+
     // Makes steps until none is left, or a fault is met. The only error is want of memory for a step.
     pub(crate) fn finish(&mut self, now: Moment) -> Result<(), AllocError>
         requires moment { self.old.moment ≡ Some now }
         ensures moment { self.new.moment ≡ self.old.moment }
-        ensures behind { IsBehind (standing_of R.Disk.told R.Disk.honest R.Disk.order R.Disk.orders R.Disk.faults self.old.book self.old.moment) (standing_of R.Disk.told R.Disk.honest R.Disk.order R.Disk.orders R.Disk.faults self.new.book self.new.moment) }
-        ensures rests { OnOk result (Rests (standing_of R.Disk.told R.Disk.honest R.Disk.order R.Disk.orders R.Disk.faults self.new.book self.new.moment) now) }
+        ensures behind { IsBehind (standing_in R.Disk.told R.Disk.honest R.Disk.order R.Disk.orders R.Disk.faults self.old.book self.old.moment self.old.lanes) (standing_in R.Disk.told R.Disk.honest R.Disk.order R.Disk.orders R.Disk.faults self.new.book self.new.moment self.new.lanes) }
+        ensures rests { OnOk result (Rests (standing_in R.Disk.told R.Disk.honest R.Disk.order R.Disk.orders R.Disk.faults self.new.book self.new.moment self.new.lanes) now) }
     {
         loop {
             let outcome = self.work(now);

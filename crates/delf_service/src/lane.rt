@@ -5,6 +5,9 @@ ghost use Rattle.seat_lock.specs.Views.{IsSameSeat};
 ghost use Rattle.seat_lock.specs.Locks.{view, IsOf};
 ghost use Rattle.delf_service.specs.Follows.{Follows, IsMoment};
 ghost use Rattle.delf_service.specs.Lanes.{HasCommand, LaneTold, Ended, Makes, Stops};
+ghost use Rattle.delf_service.specs.Rows.{IsReady};
+ghost use Rattle.delf_service.specs.Workers.{LeavesOne};
+ghost use Rattle.delf_service.specs.declared.standing.Standing.{Standing};
 
 use crate::gate::Gate;
 use crate::replies::LaneReply;
@@ -92,5 +95,30 @@ impl<G: GraphStore, R: Rig> Service<G, R> {
             }
         }
         true
+    }
+
+    // Runs the lane, and then says that it is over.
+    pub(crate) fn run_to_end<W: Wait, Q: Gate>(
+        &self,
+        rt: &W,
+        alloc: Global,
+        seat: &mut Seat<G, R>,
+        now: Moment,
+        commands: &[LaneCommand],
+        gate: &Q,
+        replies: &mut Vec<LaneReply>,
+    ) -> bool
+        requires ours { IsOf self.now.lock seat.old }
+        requires ready { IsReady now commands.now (view seat.old) replies.old.items (vec_capacity replies.old) }
+        ensures ours { IsOf self.now.lock seat.new }
+        ensures same { IsSameSeat (view seat.old) (view seat.new) }
+        ensures later { Follows (view seat.new).seen.state (view seat.old).seen.state }
+        ensures told { LaneTold (view seat.new).seen.state now (view seat.old).number (view seat.new).made commands.now replies.new.items }
+        ensures end { IsTrue result → Ended commands.now replies.new.items }
+        ensures left { (last : Standing) × Follows last (view seat.old).seen.state × LeavesOne last (view seat.new).seen.state }
+    {
+        let fed = self.run_lane(rt, alloc, seat, now, commands, gate, replies);
+        self.leave(rt, seat);
+        fed
     }
 }

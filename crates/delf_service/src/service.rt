@@ -8,7 +8,8 @@ ghost use Rattle.delf_service.specs.Asks.{AsksIn, Inquired};
 ghost use Rattle.delf_service.specs.Calls.{CallsIn, Submitted, added_by};
 ghost use Rattle.delf_service.specs.Follows.{IsMoment};
 ghost use Rattle.delf_service.specs.Seats.{Starts, JoinedTo, Closed};
-ghost use Rattle.delf_service.specs.Standings.{standing_of};
+ghost use Rattle.delf_service.specs.Standings.{standing_in, standing_of};
+ghost use Rattle.delf_service.specs.Workers.{LeavesOne, one_left};
 ghost use Rattle.delf_service.specs.Works.{TurnsIn, Worked};
 
 use crate::answers::{Answer, Asked, Turned};
@@ -35,27 +36,42 @@ impl<G: GraphStore, R: Rig> Service<G, R> {
     /// above each seat of the history. An `Err` is want of memory, and hands the book back.
     pub fn start(alloc: Global, book: Book<G, R>) -> Result<(Service<G, R>, Seat<G, R>), Book<G, R>>
         ensures ok { IfOk result (λ r. IsOf r.0.lock r.1 × Starts (standing_of R.Disk.told R.Disk.honest R.Disk.order R.Disk.orders R.Disk.faults book None) (view r.1)) }
-        ensures begun { IfOk result (λ r. standing_of R.Disk.told R.Disk.honest R.Disk.order R.Disk.orders R.Disk.faults (start_of r.0.lock).book (start_of r.0.lock).moment ≡ standing_of R.Disk.told R.Disk.honest R.Disk.order R.Disk.orders R.Disk.faults book None) }
+        ensures begun { IfOk result (λ r. standing_in R.Disk.told R.Disk.honest R.Disk.order R.Disk.orders R.Disk.faults (start_of r.0.lock).book (start_of r.0.lock).moment (start_of r.0.lock).lanes ≡ standing_of R.Disk.told R.Disk.honest R.Disk.order R.Disk.orders R.Disk.faults book None) }
         ensures err { IfErr result (λ b. b ≡ book) }
     {
-        Service::with_moment(alloc, book, None)
+        Service::with_lanes(alloc, book, None, 0)
     }
 
-    // The same, where each call hands in this moment.
-    pub(crate) fn with_moment(
+    // The same, where each call hands in this moment, and so many lanes of a block are left.
+    pub(crate) fn with_lanes(
         alloc: Global,
         book: Book<G, R>,
         moment: Option<Moment>,
+        lanes: u8,
     ) -> Result<(Service<G, R>, Seat<G, R>), Book<G, R>>
-        ensures ok { IfOk result (λ r. IsOf r.0.lock r.1 × Starts (standing_of R.Disk.told R.Disk.honest R.Disk.order R.Disk.orders R.Disk.faults book moment) (view r.1)) }
-        ensures begun { IfOk result (λ r. standing_of R.Disk.told R.Disk.honest R.Disk.order R.Disk.orders R.Disk.faults (start_of r.0.lock).book (start_of r.0.lock).moment ≡ standing_of R.Disk.told R.Disk.honest R.Disk.order R.Disk.orders R.Disk.faults book moment) }
+        ensures ok { IfOk result (λ r. IsOf r.0.lock r.1 × Starts (standing_in R.Disk.told R.Disk.honest R.Disk.order R.Disk.orders R.Disk.faults book moment lanes) (view r.1)) }
+        ensures begun { IfOk result (λ r. standing_in R.Disk.told R.Disk.honest R.Disk.order R.Disk.orders R.Disk.faults (start_of r.0.lock).book (start_of r.0.lock).moment (start_of r.0.lock).lanes ≡ standing_in R.Disk.told R.Disk.honest R.Disk.order R.Disk.orders R.Disk.faults book moment lanes) }
         ensures err { IfErr result (λ b. b ≡ book) }
     {
         let _len = book.len();
         let first = book.top_seat() + 1;
-        match SeatLock::new(alloc, Held { book, moment }, first) {
+        match SeatLock::new(
+            alloc,
+            Held {
+                book,
+                moment,
+                lanes,
+            },
+            first,
+        ) {
             Ok((lock, root)) => Ok((Service { lock }, root)),
-            Err(Held { book, moment: _ }) => Err(book),
+            Err(
+                Held {
+                    book,
+                    moment: _,
+                    lanes: _,
+                },
+            ) => Err(book),
         }
     }
 
@@ -87,7 +103,7 @@ impl<G: GraphStore, R: Rig> Service<G, R> {
             seat,
             |held: &mut Held<G, R>| -> Answer
                 requires { HasNumbers held.old.book.rules call.now × (number ≤ 64 * (length held.old.book.history + 1)) }
-                ensures { CallsIn (standing_of R.Disk.told R.Disk.honest R.Disk.order R.Disk.orders R.Disk.faults held.old.book held.old.moment) (standing_of R.Disk.told R.Disk.honest R.Disk.order R.Disk.orders R.Disk.faults held.new.book held.new.moment) now number call.entry.now result }
+                ensures { CallsIn (standing_in R.Disk.told R.Disk.honest R.Disk.order R.Disk.orders R.Disk.faults held.old.book held.old.moment held.old.lanes) (standing_in R.Disk.told R.Disk.honest R.Disk.order R.Disk.orders R.Disk.faults held.new.book held.new.moment held.new.lanes) now number call.entry.now result }
             { held.submit(now, number, call) },
         )
     }
@@ -105,7 +121,7 @@ impl<G: GraphStore, R: Rig> Service<G, R> {
             rt,
             seat,
             |held: &mut Held<G, R>| -> (Asked, [u8; LIMIT])
-                ensures asked { AsksIn (standing_of R.Disk.told R.Disk.honest R.Disk.order R.Disk.orders R.Disk.faults held.old.book held.old.moment) (standing_of R.Disk.told R.Disk.honest R.Disk.order R.Disk.orders R.Disk.faults held.new.book held.new.moment) id result.0 }
+                ensures asked { AsksIn (standing_in R.Disk.told R.Disk.honest R.Disk.order R.Disk.orders R.Disk.faults held.old.book held.old.moment held.old.lanes) (standing_in R.Disk.told R.Disk.honest R.Disk.order R.Disk.orders R.Disk.faults held.new.book held.new.moment held.new.lanes) id result.0 }
                 ensures size { length result.1 ≡ LIMIT }
             { held.ask(id) },
         );
@@ -128,17 +144,52 @@ impl<G: GraphStore, R: Rig> Service<G, R> {
         ensures same { IsSameSeat (view seat.old) (view seat.new) × ((view seat.new).made ≡ (view seat.old).made) }
         ensures turn { Worked (view seat.old).seen.state (view seat.new).seen.state now result }
     {
-        let outcome = self.lock.with(
+        self.turn(rt, seat, now, gate).0
+    }
+
+    // The same, and how many lanes of a block are left.
+    pub(crate) fn turn<W: Wait, Q: Gate>(
+        &self,
+        rt: &W,
+        seat: &mut Seat<G, R>,
+        now: Moment,
+        gate: &Q,
+    ) -> (Result<Turned, StepFault>, u8)
+        requires ours { IsOf self.now.lock seat.old }
+        requires moment { IsMoment (view seat.old).seen.state.key now }
+        ensures ours { IsOf self.now.lock seat.new }
+        ensures same { IsSameSeat (view seat.old) (view seat.new) × ((view seat.new).made ≡ (view seat.old).made) }
+        ensures turn { Worked (view seat.old).seen.state (view seat.new).seen.state now result.0 }
+        ensures lanes { result.1 ≡ (view seat.new).seen.state.lanes }
+    {
+        let (outcome, lanes) = self.lock.with(
             rt,
             seat,
-            |held: &mut Held<G, R>| -> Result<Turned, StepFault>
-                ensures { TurnsIn (standing_of R.Disk.told R.Disk.honest R.Disk.order R.Disk.orders R.Disk.faults held.old.book held.old.moment) (standing_of R.Disk.told R.Disk.honest R.Disk.order R.Disk.orders R.Disk.faults held.new.book held.new.moment) now result }
-            { held.work(now) },
+            |held: &mut Held<G, R>| -> (Result<Turned, StepFault>, u8)
+                ensures step { TurnsIn (standing_in R.Disk.told R.Disk.honest R.Disk.order R.Disk.orders R.Disk.faults held.old.book held.old.moment held.old.lanes) (standing_in R.Disk.told R.Disk.honest R.Disk.order R.Disk.orders R.Disk.faults held.new.book held.new.moment held.new.lanes) now result.0 }
+                ensures lanes { result.1 ≡ held.new.lanes }
+            { held.turn(now) },
         );
         if let Ok(Turned::Stepped { position }) = outcome {
             gate.after(position);
         }
-        outcome
+        (outcome, lanes)
+    }
+
+    // Waits for the turn, and says that one lane less is left.
+    pub(crate) fn leave<W: Wait>(&self, rt: &W, seat: &mut Seat<G, R>)
+        requires ours { IsOf self.now.lock seat.old }
+        ensures ours { IsOf self.now.lock seat.new }
+        ensures same { IsSameSeat (view seat.old) (view seat.new) × ((view seat.new).made ≡ (view seat.old).made) }
+        ensures left { LeavesOne (view seat.old).seen.state (view seat.new).seen.state }
+    {
+        self.lock.with(
+            rt,
+            seat,
+            |held: &mut Held<G, R>|
+                ensures { standing_in R.Disk.told R.Disk.honest R.Disk.order R.Disk.orders R.Disk.faults held.new.book held.new.moment held.new.lanes ≡ one_left (standing_in R.Disk.told R.Disk.honest R.Disk.order R.Disk.orders R.Disk.faults held.old.book held.old.moment held.old.lanes) }
+            { held.leave() },
+        );
     }
 
     /// Ends the service, and gives the book back. The seats are all that were opened and not joined, each once. It waits
@@ -148,11 +199,15 @@ impl<G: GraphStore, R: Rig> Service<G, R> {
         requires each { (k : ℕ) (s : _) → slice_get seats.items k ≡ Some s → IsOf self.lock s }
         requires root { IsRoot (view root) }
         requires all { out_of (view root) ≡ length seats.items }
-        ensures { (moment : Option ℕ) × Closed (standing_of R.Disk.told R.Disk.honest R.Disk.order R.Disk.orders R.Disk.faults (start_of self.lock).book (start_of self.lock).moment) (view root) (map (λ s. view s) seats.items) (standing_of R.Disk.told R.Disk.honest R.Disk.order R.Disk.orders R.Disk.faults result moment) }
+        ensures { (moment : Option ℕ) × Closed (standing_in R.Disk.told R.Disk.honest R.Disk.order R.Disk.orders R.Disk.faults (start_of self.lock).book (start_of self.lock).moment (start_of self.lock).lanes) (view root) (map (λ s. view s) seats.items) (standing_of R.Disk.told R.Disk.honest R.Disk.order R.Disk.orders R.Disk.faults result moment) }
     {
         let Service { lock } = self;
         let root = join_all(&lock, root, seats);
-        let Held { book, moment: _ } = lock.close(root);
+        let Held {
+            book,
+            moment: _,
+            lanes: _,
+        } = lock.close(root);
         let _len = book.len();
         book
     }

@@ -19,10 +19,12 @@ pub struct Key {
     pub disk: DiskKind,
 }
 
-/// The history, the disk's count of faults, whether a disk fault was answered, and the key.
+/// The history, the disk's count of faults, whether a disk fault was answered, how many lanes of a block are left, and
+/// the key.
 pub struct Standing {
     pub history: LinkedList<Entry>,
     pub faults: u64,
     pub down: bool,
+    pub lanes: u8,
     pub key: Key,
 }

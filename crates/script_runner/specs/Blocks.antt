@@ -53,11 +53,12 @@ pub record IsRunner {G R V E : Type 0} (told honest : R → Bool) (order : R →
       RunsTo (standing_of told honest order orders faults book (Some now)) (standing_of told honest order orders faults r.0 (Some now)) now lanes.now items r.1
 
 -- a world as a shared book stands over a disk of this kind, with the count of its faults, where each call is made at the clock's moment
-abbrev pub standing_in : World → DiskKind → ℕ → Standing
-standing_in w disk faults = record {
+abbrev pub standing_on : World → DiskKind → ℕ → Standing
+standing_on w disk faults = record {
   history = w.history;
   faults = faults;
   down = w.down;
+  lanes = 0;
   key = record { rules = w.rules; moment = Some w.clock; disk = disk };
 }
 
@@ -130,8 +131,8 @@ pub record RunsLanes (schema : Schema) (w : World) (quiet : Bool) (lanes : List 
   pub up : w.down ≡ false
   pub disk : DiskKind
   pub outs : List LaneOut
-  pub has : HasLanes (standing_in w disk before) (standing_in next disk now) (length lanes)
-  pub block : IsBlock (standing_in w disk before) (standing_in next disk now) w.clock lanes outs
+  pub has : HasLanes (standing_on w disk before) (standing_on next disk now) (length lanes)
+  pub block : IsBlock (standing_on w disk before) (standing_on next disk now) w.clock lanes outs
   pub fed : AreFed outs
   pub clock : next.clock ≡ w.clock
   pub text_is : text ≡ block_lines schema quiet lanes outs (length next.history) next.down
@@ -142,5 +143,5 @@ pub record LeavesLanes (w : World) (lanes : List Lane) (next : World) : Type 0 w
   pub disk : DiskKind
   pub before : ℕ
   pub now : ℕ
-  pub has : HasLanes (standing_in w disk before) (standing_in next disk now) (length lanes)
+  pub has : HasLanes (standing_on w disk before) (standing_on next disk now) (length lanes)
   pub clock : next.clock ≡ w.clock

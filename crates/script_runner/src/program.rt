@@ -134,14 +134,14 @@ pub fn run<W: Threads + Wait + Sync, S: Source, K: Sink, R: Rig + Send, C: Clock
     ensures orders { OrdersBy true (request_of (map string_bytes words.now)) (S.told source.old) (S.left source.old) (R.Disk.order rig) (R.Disk.orders rig) (R.Disk.order result.1) (R.Disk.orders result.1) result.0 }
     ensures asked { Asks (request_of (map string_bytes words.now)) result.0 (C.times_asked clock.old) (C.times_asked clock.new) }
 {
-    let run_block = |book: ProgramBook<R>, now: Moment, lanes: &[Lane], _workers: u8, _turns: u32| -> (
+    let run_block = |book: ProgramBook<R>, now: Moment, lanes: &[Lane], workers: u8, turns: u32| -> (
         ProgramBook<R>,
         Result<Vec<LaneOut>, AllocError>,
     )
-        requires { IsSync W.row × IsSync Q.row × MayRun book.rules _workers lanes.now }
+        requires { IsSync W.row × IsSync Q.row × MayRun book.rules workers lanes.now }
         ensures { RunsTo (standing_of R.Disk.told R.Disk.honest R.Disk.order R.Disk.orders R.Disk.faults book (Some now))
             (standing_of R.Disk.told R.Disk.honest R.Disk.order R.Disk.orders R.Disk.faults result.0 (Some now)) now lanes.entry.now (λ v. v.items) result.1 }
-    { run_lanes(rt, alloc, book, now, lanes, gate) };
+    { run_lanes(rt, alloc, book, now, lanes, workers, turns, gate) };
     run_words(
         alloc,
         &RunBy { run: &run_block },

@@ -1,8 +1,8 @@
 use Rattle.std.proofs.Common.{ℕ, ◌+◌, ◌≤◌, arith, ap, ◌∙◌, subst}
 use Rattle.seat_lock.specs.Views.{rooted}
-use Rattle.delf_service.specs.Standings.{standing_of}
+use Rattle.delf_service.specs.Standings.{standing_in}
 use Rattle.delf_service.proofs.Numbers.{fresh_from, low_top}
-use Rattle.delf_service.proofs.service.Service.with_moment.Goals as goal
+use Rattle.delf_service.proofs.service.Service.with_lanes.Goals as goal
 
 pub overflow_add-first : goal.overflow_add-first
 overflow_add-first g c =
@@ -19,7 +19,7 @@ pub returns-in-Ok-clause-ok : goal.returns-in-Ok-clause-ok
 returns-in-Ok-clause-ok g c = (
   c.in-Ok.ensures.lock.0,
   record {
-    root_is = c.in-Ok.ensures.root ∙ ap (λ (k : ℕ). rooted (k + 1) (standing_of g.R.Disk.told g.R.Disk.honest g.R.Disk.order g.R.Disk.orders g.R.Disk.faults c.args.book c.args.moment)) c.top_seat-first.ensures;
+    root_is = c.in-Ok.ensures.root ∙ ap (λ (k : ℕ). rooted (k + 1) (standing_in g.R.Disk.told g.R.Disk.honest g.R.Disk.order g.R.Disk.orders g.R.Disk.faults c.args.book c.args.moment c.args.lanes)) c.top_seat-first.ensures;
     legal = c.len-len.ensures.legal;
     fresh = fresh_from c.args.book.rules c.args.book.history;
     low = low_top c.args.book.rules c.args.book.history c.len-len.ensures.legal;
@@ -27,4 +27,4 @@ returns-in-Ok-clause-ok g c = (
 )
 
 pub returns-in-Ok-clause-begun : goal.returns-in-Ok-clause-begun
-returns-in-Ok-clause-begun g c = ap (λ h. standing_of g.R.Disk.told g.R.Disk.honest g.R.Disk.order g.R.Disk.orders g.R.Disk.faults h.book h.moment) c.in-Ok.ensures.lock.1
+returns-in-Ok-clause-begun g c = ap (λ h. standing_in g.R.Disk.told g.R.Disk.honest g.R.Disk.order g.R.Disk.orders g.R.Disk.faults h.book h.moment h.lanes) c.in-Ok.ensures.lock.1
