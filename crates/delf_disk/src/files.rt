@@ -176,7 +176,7 @@ impl Lazy {
         if self.open.is_none() {
             self.open = Some(open_files(rt, &self.paths)?);
         }
-        self.open.as_mut().ok_or(not_open())
+        self.open.as_mut().ok_or_else(not_open)
     }
 
     pub(crate) fn len<R: Files<File = File>>(&mut self, rt: &R, area: Area) -> io::Result<u64> {
