@@ -722,22 +722,95 @@ fn drawn(seed: u64) -> Order {
     }
 }
 
-#[test]
-fn both_graphs_agree_on_drawn_calls(rt: HostRuntime) -> Result<(), Fail> {
-    let alloc = rt.alloc();
-    let schema = photos(alloc)?;
-    let mut shards = opened(alloc, &schema)?;
-    let mut plain = opened_plain(alloc, &schema)?;
-    let mut clocks = (0, 0);
+// That the order is answered alike by both ledgers, at one moment.
+fn agree(
+    rt: &impl Abort,
+    alloc: Global,
+    shards: &mut Ledger<ShardGraph>,
+    plain: &mut Ledger<ListGraph>,
+    clock: Moment,
+    order: Order,
+) -> Result<Moment, Fail> {
+    let mut next = clock;
+    let answer = answer_to(alloc, shards, &mut next, order)?;
+    let mut also = clock;
+    answers(rt, alloc, plain, &mut also, order, answer)?;
+    Ok(next)
+}
+
+// That both ledgers have the same objects.
+fn same_objects(
+    rt: &impl Abort,
+    alloc: Global,
+    shards: &Ledger<ShardGraph>,
+    plain: &Ledger<ListGraph>,
+) -> Result<(), Fail> {
+    let some = shards.graph().objects(alloc)?;
+    let others = plain.graph().objects(alloc)?;
+    assert!(rt; some == others);
+    Ok(())
+}
+
+// That both ledgers have the same edges.
+fn same_edges(
+    rt: &impl Abort,
+    alloc: Global,
+    shards: &Ledger<ShardGraph>,
+    plain: &Ledger<ListGraph>,
+) -> Result<(), Fail> {
+    let some = shards.graph().edges(alloc)?;
+    let others = plain.graph().edges(alloc)?;
+    assert!(rt; some == others);
+    Ok(())
+}
+
+// That many orders that are drawn are answered alike.
+fn play_drawn(
+    rt: &impl Abort,
+    alloc: Global,
+    shards: &mut Ledger<ShardGraph>,
+    plain: &mut Ledger<ListGraph>,
+) -> Result<(), Fail> {
+    let mut clock = 0;
     let mut seed = 12;
     for _ in 0..5_000 {
         seed = draw(seed);
-        let order = drawn(seed);
-        let answer = answer_to(alloc, &mut shards, &mut clocks.0, order)?;
-        answers(&rt, alloc, &mut plain, &mut clocks.1, order, answer)?;
+        clock = agree(rt, alloc, shards, plain, clock, drawn(seed))?;
     }
-    assert!(rt; shards.len() > 100);
-    assert!(rt; shards.graph().objects(alloc)? == plain.graph().objects(alloc)?);
-    assert!(rt; shards.graph().edges(alloc)? == plain.graph().edges(alloc)?);
     Ok(())
+}
+
+// That both ledgers have the same rows.
+fn same_rows(
+    rt: &impl Abort,
+    alloc: Global,
+    shards: &Ledger<ShardGraph>,
+    plain: &Ledger<ListGraph>,
+) -> Result<(), Fail> {
+    assert!(rt; shards.len() > 100);
+    same_objects(rt, alloc, shards, plain)?;
+    same_edges(rt, alloc, shards, plain)
+}
+
+// That drawn orders are answered alike, and leave the same rows.
+fn agree_on_drawn(
+    rt: &impl Abort,
+    alloc: Global,
+    shards: &mut Ledger<ShardGraph>,
+    plain: &mut Ledger<ListGraph>,
+) -> Result<(), Fail> {
+    play_drawn(rt, alloc, shards, plain)?;
+    same_rows(rt, alloc, shards, plain)
+}
+
+// The same over two blank ledgers.
+fn agree_over(rt: &impl Abort, alloc: Global, schema: &Schema) -> Result<(), Fail> {
+    let mut shards = opened(alloc, schema)?;
+    agree_on_drawn(rt, alloc, &mut shards, &mut opened_plain(alloc, schema)?)
+}
+
+#[test]
+fn both_graphs_agree_on_drawn_calls(rt: HostRuntime) -> Result<(), Fail> {
+    let schema = photos(rt.alloc())?;
+    agree_over(&rt, rt.alloc(), &schema)
 }
