@@ -14,6 +14,8 @@ mod openings;
 #[cfg(test)]
 mod orders;
 #[cfg(test)]
+mod reads;
+#[cfg(test)]
 mod rows;
 #[cfg(test)]
 mod runs;
