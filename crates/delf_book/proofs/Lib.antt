@@ -1,13 +1,17 @@
 pub mod Asking
 pub mod Callings
 pub mod Carrying
+pub mod Claimed
+pub mod Claiming
 pub mod Fallen
 pub mod Fetching
+pub mod Finishing
 pub mod Fitting
 pub mod GoesBack
 pub mod Halts
 pub mod Held
 pub mod Lives
+pub mod Making
 pub mod Payloads
 pub mod Plainly
 pub mod PutBacks

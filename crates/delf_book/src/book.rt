@@ -18,6 +18,7 @@ ghost use Rattle.delf_book.specs.Holding.{Holds, StandWhole};
 
 use crate::beside::Beside;
 use crate::logs::Logs;
+use delete_step::Claim;
 use delf_disk::Rig;
 use delf_model::{GraphStore, Job, JobLine, JobName, Listed, ObjectId, ObjectRow, Rules, Status};
 use history_laws::legal_is_sound;
@@ -33,6 +34,7 @@ use std::snapshot::Snapshot;
 pub struct Book<G: GraphStore, R: Rig> {
     pub(crate) ledger: Ledger<G>,
     pub(crate) logs: Logs,
+    pub(crate) claims: Vec<Claim>,
     pub(crate) spare: u32,
     pub(crate) down: bool,
     pub(crate) beside: Option<Beside>,
@@ -43,7 +45,8 @@ pub struct Book<G: GraphStore, R: Rig> {
 }
 
 impl<G: GraphStore, R: Rig> Model for Book<G, R> {
-    ghost use Rattle.std.specs.Prelude.{◌≡◌, true, false, [], None, vec_capacity};
+    ghost use Rattle.std.specs.Prelude.{◌≡◌, true, false, None, vec_len, vec_capacity};
+    ghost use Rattle.delf_book.specs.Claims.{room_for, KeepsClaims, AreRead};
     ghost use Rattle.delf_disk.specs.Plain.{Plain};
     ghost use Rattle.delf_book.specs.Books.{Booked};
     ghost use Rattle.delf_model.specs.Step.{after};
@@ -51,14 +54,15 @@ impl<G: GraphStore, R: Rig> Model for Book<G, R> {
 
     ghost Value = { Booked G R };
 
-    ghost view = { λ b. record { rules = b.ledger.rules; history = b.ledger.history; payloads = payloads_in (after b.ledger.rules b.ledger.history) (R.Disk.seen b.rested.value); store = b.ledger.store; spare = b.spare; down = b.down; beside = b.beside; rig = b.rig; opened = b.opened.value } };
+    ghost view = { λ b. record { rules = b.ledger.rules; history = b.ledger.history; payloads = payloads_in (after b.ledger.rules b.ledger.history) (R.Disk.seen b.rested.value); store = b.ledger.store; held = b.claims.items; spare = b.spare; down = b.down; beside = b.beside; rig = b.rig; opened = b.opened.value } };
 
-    ghost invariant = { λ b. (b.down ≡ false → KeepsUp b.ledger.rules b.ledger.history b.spare b.ledger.spare b.logs.journal b.logs.vault b.logs.carriers.items (vec_capacity b.logs.carriers) (R.Disk.told b.rig) (R.Disk.honest b.rig) (R.Disk.seen b.rig) (R.Disk.may_leave b.rig))
+    ghost invariant = { λ b. (b.down ≡ false → KeepsUp b.ledger.rules b.ledger.history (room_for b.spare (vec_len b.claims)) b.ledger.spare b.logs.journal b.logs.vault b.logs.carriers.items (vec_capacity b.logs.carriers) (R.Disk.told b.rig) (R.Disk.honest b.rig) (R.Disk.seen b.rig) (R.Disk.may_leave b.rig))
         × (b.down ≡ false → b.beside ≡ None)
         × (b.down ≡ true → Plain (R.Disk.told b.rig) (R.Disk.honest b.rig) → KeepsDown b.ledger.rules b.ledger.history (payloads_in (after b.ledger.rules b.ledger.history) (R.Disk.seen b.rested.value)) b.beside (R.Disk.may_leave b.rig))
         × (Plain (R.Disk.told b.rig) (R.Disk.honest b.rig) → KeepsPayloads b.ledger.rules b.ledger.history (payloads_in (after b.ledger.rules b.ledger.history) (R.Disk.seen b.rested.value)) b.down (R.Disk.seen b.rig) (R.Disk.seen b.opened.value))
         × KeepsOpening R.Disk.told R.Disk.honest R.Disk.faults b.down b.opened.value b.rig
-        × (b.ledger.held ≡ []) };
+        × KeepsClaims b.ledger.rules b.ledger.history b.ledger.held b.spare b.claims.items (vec_capacity b.claims)
+        × (Plain (R.Disk.told b.rig) (R.Disk.honest b.rig) → AreRead (payloads_in (after b.ledger.rules b.ledger.history) (R.Disk.seen b.rested.value)) b.claims.items) };
 }
 
 impl<G: GraphStore, R: Rig> Book<G, R> {
@@ -217,6 +221,7 @@ impl<G: GraphStore + Drop, R: Rig> Book<G, R> {
         let Book {
             ledger: _,
             logs: _,
+            claims: _,
             spare: _,
             down: _,
             beside: _,

@@ -6,6 +6,8 @@ mod checks;
 #[cfg(test)]
 mod choices;
 #[cfg(test)]
+mod claims;
+#[cfg(test)]
 mod limits;
 #[cfg(test)]
 mod loads;

@@ -1,5 +1,6 @@
 //! Gates that hold lanes and workers, each for so many loads of a flag at most.
 
+use delf_book::{Claim, Prepared, prepare};
 use delf_service::Gate;
 use std::hint::spin_loop;
 use std::sync::atomic::{AtomicU64, Ordering};
@@ -38,6 +39,10 @@ impl Meeting {
 }
 
 impl Gate for Meeting {
+    fn between(&self, claim: Claim) -> Prepared {
+        prepare(claim)
+    }
+
     fn after(&self, _position: u32) {
         if self.begun.fetch_add(1, Ordering::SeqCst) < self.many
             && reaches(&self.begun, self.many)
@@ -70,6 +75,10 @@ impl Watch {
 }
 
 impl Gate for Watch {
+    fn between(&self, claim: Claim) -> Prepared {
+        prepare(claim)
+    }
+
     fn after(&self, position: u32) {
         match position {
             0 => {

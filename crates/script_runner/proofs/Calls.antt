@@ -206,19 +206,19 @@ refused_rules {G} {R} old now moment asked (DiskFault len) answers = answers.fel
 refused_rules {G} {R} old now moment asked r answers = ap (λ (b : Booked G R). b.rules) answers.2
 
 -- a book that is as it was fell not
-stays : {G R : Type 0} → (faults : R → ℕ) (old now : Booked G R) → now.down ≡ old.down → faults now.rig ≡ faults old.rig → Falls faults old now
-stays faults old now down count = record { later = omega (arith, count); fell = λ is. inl (sym down ∙ is) }
+stays : {G R : Type 0} → (faults : R → ℕ) (old now : Booked G R) → now.down ≡ old.down → now.held ≡ old.held → faults now.rig ≡ faults old.rig → Falls faults old now
+stays faults old now down held count = record { later = omega (arith, count); fell = λ is. inl (sym down ∙ is); held = held }
 
 pub accepted_falls : {G R : Type 0} → (faults : R → ℕ) (old now : Booked G R) (moment : ℕ) (asked : Call) (receipt : Receipt) → Accepted old now moment 0 asked receipt →
     faults now.rig ≡ faults old.rig → Falls faults old now
-accepted_falls faults old now moment asked receipt a count = stays faults old now (a.grew.up ∙ sym a.up) count
+accepted_falls faults old now moment asked receipt a count = stays faults old now (a.grew.up ∙ sym a.up) a.grew.held count
 
 pub refused_falls : {G R : Type 0} → (faults : R → ℕ) (old now : Booked G R) (moment : ℕ) (asked : Call) (r : Refusal) → Answers old now moment 0 asked (Err r) →
     CountsRefusal {T = Receipt} (faults old.rig) (faults now.rig) (Err r) → Falls faults old now
-refused_falls {G} {R} faults old now moment asked (Down len) answers count = stays faults old now (ap (λ (b : Booked G R). b.down) answers.2) count
-refused_falls faults old now moment asked OutOfMemory answers count = stays faults old now answers.1.down count
-refused_falls faults old now moment asked (DiskFault len) answers count = record { later = count.0; fell = λ is. inr count.1 }
-refused_falls {G} {R} faults old now moment asked r answers count = stays faults old now (ap (λ (b : Booked G R). b.down) answers.2) count
+refused_falls {G} {R} faults old now moment asked (Down len) answers count = stays faults old now (ap (λ (b : Booked G R). b.down) answers.2) (ap (λ (b : Booked G R). b.held) answers.2) count
+refused_falls faults old now moment asked OutOfMemory answers count = stays faults old now answers.1.down answers.1.held count
+refused_falls faults old now moment asked (DiskFault len) answers count = record { later = count.0; fell = λ is. inr count.1; held = answers.fell.held }
+refused_falls {G} {R} faults old now moment asked r answers count = stays faults old now (ap (λ (b : Booked G R). b.down) answers.2) (ap (λ (b : Booked G R). b.held) answers.2) count
 
 -- the type of a wrong end has a name
 pub refusal_named : {G R : Type 0} → (old now : Booked G R) (moment count : ℕ) (asked : Call) (r : Refusal) → Legal old.rules old.history → length old.rules.objects ≡ count →

@@ -88,7 +88,7 @@ leads_all may_leave faults schema first commands start i book clock past leads =
 -- a book that fell, over two commands
 
 pub falls_none : {G R : Type 0} → (faults : R → ℕ) (book : Booked G R) → Falls faults book book
-falls_none faults book = record { later = omega arith; fell = λ down. inl down }
+falls_none faults book = record { later = omega arith; fell = λ down. inl down; held = refl }
 
 pub falls_then : {G R : Type 0} → (faults : R → ℕ) (a b c : Booked G R) → Falls faults a b → Falls faults b c → Falls faults a c
 falls_then faults a b c first second = record {
@@ -100,6 +100,7 @@ falls_then faults a b c first second = record {
     ]
     | inr rose ↦ inr (rose_from (faults a.rig) (faults b.rig) (faults c.rig) first.later rose)
   ];
+  held = second.held ∙ first.held;
 }
 
 -- the end

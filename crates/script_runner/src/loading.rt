@@ -1,5 +1,5 @@
 //! A load: the generated script is made, the store is settled, and one line is put.
-ghost use Rattle.std.specs.Prelude.{◌≡◌, ◌⊎◌, ◌≤◌, true, false, IsTrue, IfOk, OnOk, OnErr};
+ghost use Rattle.std.specs.Prelude.{◌≡◌, ◌⊎◌, ◌≤◌, true, false, IsTrue, IfOk, OnOk, OnErr, []};
 ghost use Rattle.std.specs.List.{All};
 ghost use Rattle.delf_disk.specs.Causes.{Rose as DiskRose};
 ghost use Rattle.delf_disk.specs.Plain.{Plain, SameKind};
@@ -104,6 +104,7 @@ fn make_load<K: Sink, R: Rig>(
     sink: &mut K,
 ) -> (Status, R)
     requires up { store.book.down ≡ false }
+    requires unclaimed { store.book.held ≡ [] }
     requires named { HasNames schema.now store.book.rules }
     requires numbered { All (IsNumberedCommand store.book.rules) commands.now }
     requires still { All IsStill commands.now }
@@ -137,6 +138,7 @@ fn make_all<R: Rig>(
     requires named { HasNames schema.now store.old.book.rules }
     requires numbered { All (IsNumberedCommand store.old.book.rules) commands.now }
     requires still { All IsStill commands.now }
+    requires unclaimed { store.old.book.held ≡ [] }
     ensures made { OnOk result (Plain (R.Disk.told store.old.book.rig) (R.Disk.honest store.old.book.rig) → (e : Payloads)
         → StandsOn (world_of store.old.book store.old.clock e) (R.Disk.may_leave store.old.book.rig)
         → Leads R.Disk.may_leave R.Disk.faults schema.now (world_of store.old.book store.old.clock e) commands.now (R.Disk.faults store.old.book.rig) store.new.book store.new.clock) }

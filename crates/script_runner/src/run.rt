@@ -1,5 +1,5 @@
 //! A run: the words, the source, the store, its commands one by one, and the last settling.
-ghost use Rattle.std.specs.Prelude.{◌≡◌, ◌++◌, ◌⊎◌, ◌<◌, ◌≤◌, ◌^◌, ℕ, List, true, false, IsTrue, IfOk, IfErr, map, length, string_bytes};
+ghost use Rattle.std.specs.Prelude.{◌≡◌, ◌++◌, ◌⊎◌, ◌<◌, ◌≤◌, ◌^◌, ℕ, List, true, false, IsTrue, IfOk, IfErr, map, length, string_bytes, []};
 ghost use Rattle.std.specs.List.{All};
 ghost use Rattle.delf_disk.specs.Causes.{Rose as DiskRose};
 ghost use Rattle.delf_disk.specs.Plain.{Plain, SameKind, SameTelling};
@@ -276,6 +276,7 @@ fn run_commands<K: Sink, R: Rig>(
 ) -> (Status, R)
     requires count { length commands.now < 2 ^ 32 }
     requires up { store.book.down ≡ false }
+    requires unclaimed { store.book.held ≡ [] }
     requires spellable { IsSpellable schema.now }
     requires rules { store.book.rules ≡ numbered schema.now }
     requires named { HasNames schema.now store.book.rules }
@@ -325,6 +326,7 @@ fn make<R: Rig>(
     requires named { HasNames schema.now store.book.rules }
     requires numbered { IsNumberedCommand store.book.rules command.now }
     requires lanes { HasNoLanes command.now }
+    requires unclaimed { store.book.held ≡ [] }
     ensures same_rules { IfOk result (λ it. it.0.book.rules ≡ store.book.rules) }
     ensures serves { IfOk result (λ it. Plain (R.Disk.told store.book.rig) (R.Disk.honest store.book.rig) → (e : Payloads)
         → Carries R.Disk.may_leave R.Disk.faults schema.now command.now store.book it.0.book store.clock it.0.clock e it.1) }

@@ -16,6 +16,7 @@ loop-command-init g c = record {
   sink_count = refl;
   done = refl;
   rules = refl;
+  held = refl;
   telling = record { tells = refl; keeps_word = refl };
   later = omega arith;
   fell = λ down. absurd (cc (c.requires.up, down));
@@ -76,6 +77,7 @@ loop-command-preserved g c =
       sink_count = c.in-Ok-put_all.ensures.ok_stays ∙ inv.sink_count;
       done = omega arith;
       rules = c.in-Ok.ensures.same_rules ∙ inv.rules;
+      held = c.in-Ok.ensures.ok_count.held ∙ inv.held;
       telling = record { tells = c.in-Ok.ensures.ok_telling.tells ∙ inv.telling.tells; keeps_word = c.in-Ok.ensures.ok_telling.keeps_word ∙ inv.telling.keeps_word };
       later = omega (arith, c.in-Ok.ensures.ok_count.later);
       fell = falls_next g.R.Disk.faults (g.R.Disk.faults c.args.store.book.rig) c.loop-command.store.book c.in-Ok.next.book inv.later inv.fell c.in-Ok.ensures.ok_count;

@@ -13,6 +13,7 @@ invariant-loop-command g l = record {
   sink_count : g.K.Sink.faults l.sink ≡ g.K.Sink.faults l.fn.sink;
   done : l.done ≡ l.command-index;
   rules : l.store.book.rules ≡ l.fn.store.book.rules;
+  held : l.store.book.held ≡ l.fn.store.book.held;
   telling : SameTelling g.R.Disk.told g.R.Disk.honest l.fn.store.book.rig l.store.book.rig;
   later : g.R.Disk.faults l.fn.store.book.rig ≤ g.R.Disk.faults l.store.book.rig;
   fell : l.store.book.down ≡ true → Rose (g.R.Disk.faults l.fn.store.book.rig) (g.R.Disk.faults l.store.book.rig);

@@ -18,7 +18,7 @@ loop-preserved g c =
     let x = standing_in g.R.Disk c.loop.self.book c.loop.self.moment c.loop.self.lanes in
     let y = standing_in g.R.Disk c.work-outcome.new.self.book c.work-outcome.new.self.moment c.work-outcome.new.self.lanes in
     let was = c.loop.invariant in
-    let steps = c.work-outcome.ensures.steps in
+    let steps = c.work-outcome.ensures.turns.steps in
     let follows = steps_follow x y c.args.now (is_moment x.key c.args.now (was.moment ∙ c.requires.moment)) c.work-outcome.result steps in
     record {
       moment = ap (λ k. k.moment) follows.key ∙ was.moment;
