@@ -24,9 +24,9 @@ use Rattle.delf_book.specs.Parts.{Interrupted}
 use Rattle.delf_book.specs.declared.answers.Receipt.{Receipt}
 use Rattle.delf_book.specs.Books.{Booked, state_in, Grew, Accepted, Interrupts, Answers, CallIsSafe, CountsRefusal, given_by, started_by, job_if, restored_items}
 use Rattle.job_report.specs.Texts.{unlinked_text, refusal_text, down_text}
-use Rattle.script_runner.specs.Lines.{receipt_text}
+use Rattle.script_runner.specs.Lines.{receipt_text, refusal_name}
 use Rattle.script_runner.specs.Names.{IsNumberedRefusal}
-use Rattle.script_runner.specs.Serial.{answer, answer_text, accepted_text, after_answer, started_name, refusal_name, refused_down, Submits}
+use Rattle.script_runner.specs.Serial.{answer, answer_text, accepted_text, after_answer, started_name, refused_down, Submits}
 use Rattle.documents.specs.Names.{edge_name}
 use Rattle.script_runner.specs.Serial as serial
 use Rattle.script_runner.specs.Standing.{Carried, HaltedAt, Falls}
@@ -237,6 +237,9 @@ if_ok P (Err e) each = tt
 pub on_err : {T E : Type 0} → {P : Type 0} → (r : Result T E) → P → OnErr r P
 on_err (Ok x) p = tt
 on_err (Err e) p = p
+
+pub err_of : {T E : Type 0} → {P : Type 0} → (r : Result T E) (e : E) → r ≡ Err e → OnErr r P → P
+err_of {T} {E} {P} r e is holds = subst (λ (q : Result T E). OnErr q P) is holds
 
 pub ok_is : {T E : Type 0} → (P : T → Type 0) (r : Result T E) (x : T) → r ≡ Ok x → IfOk r P → P x
 ok_is {T} {E} P r x is holds = subst (λ (q : Result T E). IfOk q P) is holds

@@ -8,6 +8,8 @@ pub mod Endings
 pub mod Ends
 pub mod Finds
 pub mod Keeping
+pub mod LaneLines
+pub mod LaneRuns
 pub mod LoadSteps
 pub mod Loops
 pub mod Moves

@@ -76,6 +76,11 @@ LineSaid (Err OutOfMemory) text = ⊥
 LineSaid (Err (Failed len)) text = text ≡ down_text len
 
 -- a command that keeps the store open
+abbrev pub IsOpen : Command → Type 0
+IsOpen (Crash pick) = ⊥
+IsOpen other = Unit {0}
+
+-- the same, and no block
 abbrev pub IsServed : Command → Type 0
 IsServed (Crash pick) = ⊥
 IsServed (Par quiet workers turns lanes) = ⊥

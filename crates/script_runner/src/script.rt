@@ -212,8 +212,8 @@ fn told_or_down(alloc: Global, told: Result<Bytes, LineFault>) -> Result<Bytes, 
     }
 }
 
-// The line that is printed while the store is down.
-fn down_refused(alloc: Global, len: u32) -> Result<Bytes, AllocError>
+/// The line that is printed while the store is down.
+pub(crate) fn down_refused(alloc: Global, len: u32) -> Result<Bytes, AllocError>
     ensures { IfOk result (λ text. text ≡ refusal_text (refused.Down len) len []) }
 {
     refusal_line(alloc, &Refusal::Down { len }, len, &unprinted_name(alloc)?)

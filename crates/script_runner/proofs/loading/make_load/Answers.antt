@@ -8,10 +8,10 @@ pub returns-in-Ok-clause-text : goal.returns-in-Ok-clause-text
 returns-in-Ok-clause-text g c = λ tell plain e stands.
     let old = c.args.store.book in
     let first = world_of old c.args.store.clock e in
-    let made = c.make_all.new.store in
+    let made = c.make_all-store.result.0 in
     let here = plain_then (g.R.Disk.told old.rig) (g.R.Disk.honest old.rig) (g.R.Disk.told made.book.rig) (g.R.Disk.honest made.book.rig)
-    c.in-Ok.ensures.kind.tells c.in-Ok.ensures.kind.keeps_word plain in
-    let leads = c.in-Ok.ensures.made plain e stands in
+    c.make_all-store.ensures.kind.tells c.make_all-store.ensures.kind.keeps_word plain in
+    let leads = c.make_all-store.ensures.made plain e stands in
     load_script c.args.n c.args.schema.now first c.args.commands.now (g.R.Disk.faults old.rig) (g.R.Disk.faults c.finish_load.result.1) (g.R.Disk.may_leave c.finish_load.result.1) _ _
     c.finish_load.result.0
     (load_ended g.R.Disk.may_leave g.R.Disk.faults c.args.n c.args.schema.now first c.args.commands.now (g.R.Disk.faults old.rig) made.book made.clock c.finish_load.result.1 _ _
@@ -19,8 +19,8 @@ returns-in-Ok-clause-text g c = λ tell plain e stands.
 
 pub returns-in-Ok-clause-cause : goal.returns-in-Ok-clause-cause
 returns-in-Ok-clause-cause g c =
-    let falls = c.in-Ok.ensures.cause in
-    load_end_cause (g.R.Disk.faults c.args.store.book.rig) (g.R.Disk.faults c.make_all.new.store.book.rig) (g.R.Disk.faults c.finish_load.result.1) _ _ _ c.finish_load.result.0
+    let falls = c.make_all-store.ensures.cause in
+    load_end_cause (g.R.Disk.faults c.args.store.book.rig) (g.R.Disk.faults c.make_all-store.result.0.book.rig) (g.R.Disk.faults c.finish_load.result.1) _ _ _ c.finish_load.result.0
     falls.later c.finish_load.ensures.rig_faults (λ down. elim (falls.fell down) [
       | inl was ↦ absurd (cc (c.requires.up, was))
       | inr rose ↦ rose

@@ -1,8 +1,8 @@
 use Rattle.std.proofs.Common.{refl, inl}
 use Rattle.script_runner.specs.Worlds.{world_of}
 use Rattle.script_runner.proofs.Endings.{settled_end, down_end, fell_end, fell_text}
-use Rattle.script_runner.proofs.run.finish.Goals.{in-Ok, in-Err-Down, in-Err-DiskFault}
-use Rattle.script_runner.proofs.run.finish.Goals as goal
+use Rattle.script_runner.proofs.program.finish.Goals.{in-Ok, in-Err-Down, in-Err-DiskFault}
+use Rattle.script_runner.proofs.program.finish.Goals as goal
 
 pub returns-clause-text : goal.returns-clause-text
 returns-clause-text g c = λ told plain e stands.

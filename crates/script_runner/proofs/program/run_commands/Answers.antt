@@ -8,7 +8,7 @@ use Rattle.script_runner.proofs.Ends.{orders_none, orders_more}
 use Rattle.documents.proofs.Places.{take_past}
 use Rattle.script_runner.proofs.Moves.{plain_then}
 use Rattle.script_runner.proofs.Texts.{SoFar, none_so_far, more_so_far, stopped, cut_in_lines, ended}
-use Rattle.script_runner.proofs.run.run_commands.Goals as goal
+use Rattle.script_runner.proofs.program.run_commands.Goals as goal
 
 pub loop-command-init : goal.loop-command-init
 loop-command-init g c = record {

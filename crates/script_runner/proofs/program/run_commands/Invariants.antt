@@ -5,7 +5,7 @@ use Rattle.delf_model.specs.Payloads.{Payloads}
 use Rattle.script_runner.specs.Orders.{GivesAll}
 use Rattle.script_runner.specs.Worlds.{StandsOn, world_of}
 use Rattle.script_runner.proofs.Texts.{SoFar}
-use Rattle.script_runner.proofs.run.run_commands.Given as goal
+use Rattle.script_runner.proofs.program.run_commands.Given as goal
 
 abbrev pub invariant-loop-command : goal.invariant-loop-command
 invariant-loop-command g l = record {

@@ -1,7 +1,7 @@
 use Rattle.script_runner.specs.Worlds.{world_of}
 use Rattle.script_runner.proofs.Calls.{if_ok, ok_is, if_err, err_is}
 use Rattle.script_runner.proofs.Crashes.{crash_halts}
-use Rattle.script_runner.proofs.run.make.Goals as goal
+use Rattle.script_runner.proofs.program.make.Goals as goal
 
 pub returns-in-Ok-clause-serves : goal.returns-in-Ok-clause-serves
 returns-in-Ok-clause-serves g c = if_ok _ c.opened.result (λ it is plain e stands.
@@ -17,8 +17,5 @@ returns-in-Ok-clause-stops g c = if_err _ c.opened.result (λ it is plain e.
 pub returns-in-Err-clause-stops : goal.returns-in-Err-clause-stops
 returns-in-Err-clause-stops g c = λ plain e. rw c.in-Crash.is (c.in-Err.ensures.stops plain e)
 
-pub returns-in-Err-perform-clause-stops : goal.returns-in-Err-perform-clause-stops
-returns-in-Err-perform-clause-stops g c = λ plain e. rw c.starved.ensures.rig (rw c.starved.ensures.fault (c.in-Err-perform.ensures.halts plain e))
-
-pub returns-in-Err-perform-clause-err_telling : goal.returns-in-Err-perform-clause-err_telling
-returns-in-Err-perform-clause-err_telling g c = rw c.starved.ensures.rig c.in-Err-perform.ensures.telling
+pub returns-in-Err-lines-clause-stops : goal.returns-in-Err-lines-clause-stops
+returns-in-Err-lines-clause-stops g c = λ plain e. rw c.starved.ensures.rig (rw c.starved.ensures.fault (subst (λ o. OnErr o (_)) c.in-Err-lines.is c.serve-store.ensures.halts plain e))

@@ -1,5 +1,5 @@
 //! A run: the words, the source, the store, its commands one by one, and the last settling.
-ghost use Rattle.std.specs.Prelude.{◌≡◌, ◌++◌, ◌⊎◌, ◌<◌, ◌≤◌, ◌^◌, ℕ, List, true, false, IsTrue, IfOk, IfErr, map, length, string_bytes};
+ghost use Rattle.std.specs.Prelude.{◌≡◌, ◌++◌, ◌⊎◌, ◌<◌, ◌≤◌, ◌^◌, ℕ, List, Some, true, false, IsTrue, IfOk, IfErr, map, length, string_bytes};
 ghost use Rattle.std.specs.List.{All};
 ghost use Rattle.delf_disk.specs.Causes.{Rose as DiskRose};
 ghost use Rattle.delf_disk.specs.Plain.{Plain, SameKind, SameTelling};
@@ -10,6 +10,9 @@ ghost use Rattle.delf_model.specs.Legal.{Legal};
 ghost use Rattle.delf_model.specs.Sound.{Sound};
 ghost use Rattle.job_report.specs.Texts.{opened_text};
 ghost use Rattle.delf_model.specs.Payloads.{Payloads};
+ghost use denote.Param.Send.{IsSync};
+ghost use Rattle.delf_service.specs.Standings.{standing_of};
+ghost use Rattle.script_runner.specs.Blocks.{IsRunner, MayRun, RunsTo};
 ghost use Rattle.script_runner.specs.Complete.{IsQuiet, IsStore, EndsWell};
 ghost use Rattle.script_runner.specs.Endings.{UnopenedText, UnopenedCause, DownText, DownCause, EndText, EndCause};
 ghost use Rattle.script_runner.specs.LoadEnds.{LoadText};
@@ -22,16 +25,19 @@ ghost use Rattle.script_runner.specs.Faults.{FaultText, FaultCause};
 ghost use Rattle.script_runner.specs.Standing.{Falls, Carries};
 ghost use Rattle.script_runner.specs.Worlds.{StandsOn, world_of};
 
+use crate::blocks::{Blocks, NoBlocks, Outs, RunBy};
 use crate::check::check_source;
+use crate::graph::ProgramBook;
+use crate::lanes::serve;
 use crate::loading::run_load;
-use crate::script::perform;
 use crate::status::Status;
 use crate::store::{Store, crash};
 use delf_book::BookFault;
 use delf_disk::{Area, Rig};
 use delf_io::{Clock, Sink, Source};
-use delf_model::{Bytes, Command, GREATEST_MOMENT, Moment, Schema};
+use delf_model::{Bytes, Command, GREATEST_MOMENT, Lane, Moment, Schema};
 use delf_recovery::OpenFault;
+use delf_service::{Gate, run_lanes};
 use documents::{
     Document, READ_LIMIT, ReadError, Request, Start, put_all, read_at_most, read_document,
     read_words,
@@ -39,12 +45,14 @@ use documents::{
 use job_report::{bad_journal_line, bad_vault_line, down_line, fault_line, opened_line};
 use script_lang::DocumentFault;
 use std::alloc::{AllocError, Global};
+use std::sync::Wait;
+use std::thread::Threads;
 
 /// Runs the program with these words. `run` reads a document from `source`, opens the store on `rig`, makes the commands, and
 /// puts their lines to `sink`; the moment of the start is the one that the words give, or the clock's answer, which is asked
 /// for once the document was accepted. `check` reads a document, puts its routes and makes no disk call. `load` reads nothing,
 /// makes the script that is generated to a size, settles, and puts one line. Other words are answered by the usage line. The
-/// disk comes back.
+/// disk comes back. No script has blocks of lanes, and it waits for nobody.
 pub fn run_plain<S: Source, K: Sink, R: Rig, C: Clock>(
     alloc: Global,
     words: &[String],
@@ -54,13 +62,13 @@ pub fn run_plain<S: Source, K: Sink, R: Rig, C: Clock>(
     clock: &mut C,
 ) -> (Status, R)
     // Why it ended so, and what it put and left on the disk.
-    ensures cause { RunCause (request_of (map string_bytes words.now)) (S.told source.old) (S.left source.old)
+    ensures cause { RunCause false (request_of (map string_bytes words.now)) (S.told source.old) (S.left source.old)
         (Rose (S.faults source.old) (S.faults source.new)) (Rose (K.faults sink.old) (K.faults sink.new)) (DiskRose (R.Disk.faults rig) (R.Disk.faults result.1))
         (λ rules area at. Plain (R.Disk.told rig) (R.Disk.honest rig) → IsBad rules (R.Disk.seen rig) area at) result.0 }
     ensures complete { IsQuiet (Rose (S.faults source.old) (S.faults source.new)) (Rose (K.faults sink.old) (K.faults sink.new)) (DiskRose (R.Disk.faults rig) (R.Disk.faults result.1))
-        → EndsWell (request_of (map string_bytes words.now)) (S.told source.old) (S.left source.old)
+        → EndsWell false (request_of (map string_bytes words.now)) (S.told source.old) (S.left source.old)
         (λ rules. Plain (R.Disk.told rig) (R.Disk.honest rig) × IsStore rules (R.Disk.seen rig)) result.0 }
-    ensures text { IsTrue (K.told sink.old) → RunText (request_of (map string_bytes words.now)) (C.last_answer clock.new)
+    ensures text { IsTrue (K.told sink.old) → RunText false (request_of (map string_bytes words.now)) (C.last_answer clock.new)
         (S.told source.old) (S.left source.old) (λ moment document status. Plain (R.Disk.told rig) (R.Disk.honest rig) → DocumentText document moment (R.Disk.seen rig) (R.Disk.may_leave rig)
         (R.Disk.faults rig) (R.Disk.faults result.1) (R.Disk.may_leave result.1) (K.held sink.old) (K.held sink.new) status)
         (λ n moment document status. Plain (R.Disk.told rig) (R.Disk.honest rig) → LoadText n document moment (R.Disk.seen rig) (R.Disk.may_leave rig)
@@ -79,13 +87,118 @@ pub fn run_plain<S: Source, K: Sink, R: Rig, C: Clock>(
     ensures rig_faults { R.Disk.faults rig ≤ R.Disk.faults result.1 }
     ensures source_faults { S.faults source.old ≤ S.faults source.new }
     ensures untouched { UntouchedBy (request_of (map string_bytes words.now)) (result.1 ≡ rig) result.0 }
-    ensures orders { OrdersBy (request_of (map string_bytes words.now)) (S.told source.old) (S.left source.old) (R.Disk.order rig) (R.Disk.orders rig) (R.Disk.order result.1) (R.Disk.orders result.1) result.0 }
+    ensures orders { OrdersBy false (request_of (map string_bytes words.now)) (S.told source.old) (S.left source.old) (R.Disk.order rig) (R.Disk.orders rig) (R.Disk.order result.1) (R.Disk.orders result.1) result.0 }
+    ensures asked { Asks (request_of (map string_bytes words.now)) result.0 (C.times_asked clock.old) (C.times_asked clock.new) }
+{
+    run_words(alloc, &NoBlocks, words, source, sink, rig, clock)
+}
+
+/// The same, where scripts may have blocks of lanes, which run on threads, a lane each, and tell the gate of their entries. A
+/// load makes its script's block so. It may wait.
+pub fn run<W: Threads + Wait + Sync, S: Source, K: Sink, R: Rig + Send, C: Clock, Q: Gate + Sync>(
+    rt: &W,
+    alloc: Global,
+    words: &[String],
+    source: &mut S,
+    sink: &mut K,
+    rig: R,
+    clock: &mut C,
+    gate: &Q,
+) -> (Status, R)
+    // Why it ended so, and what it put and left on the disk.
+    ensures cause { RunCause true (request_of (map string_bytes words.now)) (S.told source.old) (S.left source.old)
+        (Rose (S.faults source.old) (S.faults source.new)) (Rose (K.faults sink.old) (K.faults sink.new)) (DiskRose (R.Disk.faults rig) (R.Disk.faults result.1))
+        (λ rules area at. Plain (R.Disk.told rig) (R.Disk.honest rig) → IsBad rules (R.Disk.seen rig) area at) result.0 }
+    ensures complete { IsQuiet (Rose (S.faults source.old) (S.faults source.new)) (Rose (K.faults sink.old) (K.faults sink.new)) (DiskRose (R.Disk.faults rig) (R.Disk.faults result.1))
+        → EndsWell true (request_of (map string_bytes words.now)) (S.told source.old) (S.left source.old)
+        (λ rules. Plain (R.Disk.told rig) (R.Disk.honest rig) × IsStore rules (R.Disk.seen rig)) result.0 }
+    ensures text { IsTrue (K.told sink.old) → RunText true (request_of (map string_bytes words.now)) (C.last_answer clock.new)
+        (S.told source.old) (S.left source.old) (λ moment document status. Plain (R.Disk.told rig) (R.Disk.honest rig) → DocumentText document moment (R.Disk.seen rig) (R.Disk.may_leave rig)
+        (R.Disk.faults rig) (R.Disk.faults result.1) (R.Disk.may_leave result.1) (K.held sink.old) (K.held sink.new) status)
+        (λ n moment document status. Plain (R.Disk.told rig) (R.Disk.honest rig) → LoadText n document moment (R.Disk.seen rig) (R.Disk.may_leave rig)
+        (R.Disk.faults rig) (R.Disk.faults result.1) (R.Disk.may_leave result.1) (K.held sink.old) (K.held sink.new) status)
+        (K.held sink.old) (K.held sink.new) result.0 }
+
+    // What it leaves.
+    ensures read { IsTrue (S.told source.old) → (read : List ℕ) × (length read ≤ 16777217)
+        × (S.left source.old ≡ read ++ S.left source.new) }
+    ensures whole { IsTrue (S.told source.old) → ReadsAllBy (request_of (map string_bytes words.now)) (S.left source.old) (S.left source.new) result.0 }
+    ensures unread { UnreadBy (request_of (map string_bytes words.now)) (source.new ≡ source.old) }
+    ensures same_source { S.told source.new ≡ S.told source.old }
+    ensures same_sink { K.told sink.new ≡ K.told sink.old }
+    ensures sink_faults { K.faults sink.old ≤ K.faults sink.new }
+    ensures telling { SameTelling R.Disk.told R.Disk.honest rig result.1 }
+    ensures rig_faults { R.Disk.faults rig ≤ R.Disk.faults result.1 }
+    ensures source_faults { S.faults source.old ≤ S.faults source.new }
+    ensures untouched { UntouchedBy (request_of (map string_bytes words.now)) (result.1 ≡ rig) result.0 }
+    ensures orders { OrdersBy true (request_of (map string_bytes words.now)) (S.told source.old) (S.left source.old) (R.Disk.order rig) (R.Disk.orders rig) (R.Disk.order result.1) (R.Disk.orders result.1) result.0 }
+    ensures asked { Asks (request_of (map string_bytes words.now)) result.0 (C.times_asked clock.old) (C.times_asked clock.new) }
+{
+    let run_block = |store: Store<R>, lanes: &[Lane], workers: u8, turns: u32| -> (Store<R>, Outs)
+        requires { IsSync W.row × IsSync Q.row × MayRun store.book.rules workers lanes.now }
+        ensures clock { result.0.clock ≡ store.clock }
+        ensures lanes { RunsTo (standing_of R.Disk store.book (Some store.clock))
+            (standing_of R.Disk result.0.book (Some store.clock)) store.clock lanes.entry.now (λ v. v.items) result.1 }
+    {
+        let Store { book, clock } = store;
+        let (book, outs) = run_lanes(rt, alloc, book, clock, lanes, workers, turns, gate);
+        (Store { book, clock }, outs)
+    };
+    run_words(
+        alloc,
+        &RunBy { run: &run_block },
+        words,
+        source,
+        sink,
+        rig,
+        clock,
+    )
+}
+
+// The same, by what runs the lanes of a block.
+fn run_words<S: Source, K: Sink, R: Rig, C: Clock, B: Blocks<Store<R>, Outs>>(
+    alloc: Global,
+    blocks: &B,
+    words: &[String],
+    source: &mut S,
+    sink: &mut K,
+    rig: R,
+    clock: &mut C,
+) -> (Status, R)
+    requires { IsRunner B.served R.Disk (λ store. store.book) (λ store. store.clock) (λ v. v.items) (B.may blocks.now) (B.ran blocks.now) }
+    // Why it ended so, and what it put and left on the disk.
+    ensures cause { RunCause B.served (request_of (map string_bytes words.now)) (S.told source.old) (S.left source.old)
+        (Rose (S.faults source.old) (S.faults source.new)) (Rose (K.faults sink.old) (K.faults sink.new)) (DiskRose (R.Disk.faults rig) (R.Disk.faults result.1))
+        (λ rules area at. Plain (R.Disk.told rig) (R.Disk.honest rig) → IsBad rules (R.Disk.seen rig) area at) result.0 }
+    ensures complete { IsQuiet (Rose (S.faults source.old) (S.faults source.new)) (Rose (K.faults sink.old) (K.faults sink.new)) (DiskRose (R.Disk.faults rig) (R.Disk.faults result.1))
+        → EndsWell B.served (request_of (map string_bytes words.now)) (S.told source.old) (S.left source.old)
+        (λ rules. Plain (R.Disk.told rig) (R.Disk.honest rig) × IsStore rules (R.Disk.seen rig)) result.0 }
+    ensures text { IsTrue (K.told sink.old) → RunText B.served (request_of (map string_bytes words.now)) (C.last_answer clock.new)
+        (S.told source.old) (S.left source.old) (λ moment document status. Plain (R.Disk.told rig) (R.Disk.honest rig) → DocumentText document moment (R.Disk.seen rig) (R.Disk.may_leave rig)
+        (R.Disk.faults rig) (R.Disk.faults result.1) (R.Disk.may_leave result.1) (K.held sink.old) (K.held sink.new) status)
+        (λ n moment document status. Plain (R.Disk.told rig) (R.Disk.honest rig) → LoadText n document moment (R.Disk.seen rig) (R.Disk.may_leave rig)
+        (R.Disk.faults rig) (R.Disk.faults result.1) (R.Disk.may_leave result.1) (K.held sink.old) (K.held sink.new) status)
+        (K.held sink.old) (K.held sink.new) result.0 }
+
+    // What it leaves.
+    ensures read { IsTrue (S.told source.old) → (read : List ℕ) × (length read ≤ 16777217)
+        × (S.left source.old ≡ read ++ S.left source.new) }
+    ensures whole { IsTrue (S.told source.old) → ReadsAllBy (request_of (map string_bytes words.now)) (S.left source.old) (S.left source.new) result.0 }
+    ensures unread { UnreadBy (request_of (map string_bytes words.now)) (source.new ≡ source.old) }
+    ensures same_source { S.told source.new ≡ S.told source.old }
+    ensures same_sink { K.told sink.new ≡ K.told sink.old }
+    ensures sink_faults { K.faults sink.old ≤ K.faults sink.new }
+    ensures telling { SameTelling R.Disk.told R.Disk.honest rig result.1 }
+    ensures rig_faults { R.Disk.faults rig ≤ R.Disk.faults result.1 }
+    ensures source_faults { S.faults source.old ≤ S.faults source.new }
+    ensures untouched { UntouchedBy (request_of (map string_bytes words.now)) (result.1 ≡ rig) result.0 }
+    ensures orders { OrdersBy B.served (request_of (map string_bytes words.now)) (S.told source.old) (S.left source.old) (R.Disk.order rig) (R.Disk.orders rig) (R.Disk.order result.1) (R.Disk.orders result.1) result.0 }
     ensures asked { Asks (request_of (map string_bytes words.now)) result.0 (C.times_asked clock.old) (C.times_asked clock.new) }
 {
     match read_words(words) {
-        Some(Request::Run(start)) => run_source(alloc, start, source, sink, rig, clock),
-        Some(Request::Check) => (check_source(alloc, source, sink), rig),
-        Some(Request::Load { n }) => run_load(alloc, n, sink, rig, clock),
+        Some(Request::Run(start)) => run_source(alloc, blocks, start, source, sink, rig, clock),
+        Some(Request::Check) => (check_source(alloc, source, sink, blocks.are_served()), rig),
+        Some(Request::Load { n }) => run_load(alloc, blocks, n, sink, rig, clock),
         None => (put_usage(sink), rig),
     }
 }
@@ -102,18 +215,20 @@ fn put_usage<K: Sink>(sink: &mut K) -> Status
     }
 }
 
-fn run_source<S: Source, K: Sink, R: Rig, C: Clock>(
+fn run_source<S: Source, K: Sink, R: Rig, C: Clock, B: Blocks<Store<R>, Outs>>(
     alloc: Global,
+    blocks: &B,
     start: Start,
     source: &mut S,
     sink: &mut K,
     rig: R,
     clock: &mut C,
 ) -> (Status, R)
-    ensures cause { SourceCause (S.told source.old) (S.left source.old)
+    requires { IsRunner B.served R.Disk (λ store. store.book) (λ store. store.clock) (λ v. v.items) (B.may blocks.now) (B.ran blocks.now) }
+    ensures cause { SourceCause B.served (S.told source.old) (S.left source.old)
         (Rose (S.faults source.old) (S.faults source.new)) (Rose (K.faults sink.old) (K.faults sink.new)) (DiskRose (R.Disk.faults rig) (R.Disk.faults result.1))
         (λ rules area at. Plain (R.Disk.told rig) (R.Disk.honest rig) → IsBad rules (R.Disk.seen rig) area at) result.0 }
-    ensures text { IsTrue (K.told sink.old) → SourceText (S.told source.old) (S.left source.old)
+    ensures text { IsTrue (K.told sink.old) → SourceText B.served (S.told source.old) (S.left source.old)
         (λ document status. Plain (R.Disk.told rig) (R.Disk.honest rig) → DocumentText document (moment_of_start start (C.last_answer clock.new)) (R.Disk.seen rig) (R.Disk.may_leave rig)
         (R.Disk.faults rig) (R.Disk.faults result.1) (R.Disk.may_leave result.1) (K.held sink.old) (K.held sink.new) status)
         (K.held sink.old) (K.held sink.new) result.0 }
@@ -127,27 +242,29 @@ fn run_source<S: Source, K: Sink, R: Rig, C: Clock>(
     ensures rig_faults { R.Disk.faults rig ≤ R.Disk.faults result.1 }
     ensures source_faults { S.faults source.old ≤ S.faults source.new }
     ensures untouched { Untouched (result.1 ≡ rig) result.0 }
-    ensures orders { IsTrue (S.told source.old) → OrdersOf (S.left source.old) (R.Disk.order rig) (R.Disk.orders rig) (R.Disk.order result.1) (R.Disk.orders result.1) result.0 }
+    ensures orders { IsTrue (S.told source.old) → OrdersOf B.served (S.left source.old) (R.Disk.order rig) (R.Disk.orders rig) (R.Disk.order result.1) (R.Disk.orders result.1) result.0 }
     ensures asked { AsksFor start result.0 (C.times_asked clock.old) (C.times_asked clock.new) }
 {
     match read_at_most(alloc, source, READ_LIMIT) {
-        Ok(bytes) => run_bytes(alloc, start, bytes.as_slice(), sink, rig, clock),
+        Ok(bytes) => run_bytes(alloc, blocks, start, bytes.as_slice(), sink, rig, clock),
         Err(ReadError::Failed) => (Status::ReadFault, rig),
         Err(ReadError::OutOfMemory) => (Status::OutOfMemory { done: 0 }, rig),
     }
 }
 
-fn run_bytes<K: Sink, R: Rig, C: Clock>(
+fn run_bytes<K: Sink, R: Rig, C: Clock, B: Blocks<Store<R>, Outs>>(
     alloc: Global,
+    blocks: &B,
     start: Start,
     bytes: &[u8],
     sink: &mut K,
     rig: R,
     clock: &mut C,
 ) -> (Status, R)
-    ensures cause { BytesCause bytes.now (Rose (K.faults sink.old) (K.faults sink.new)) (DiskRose (R.Disk.faults rig) (R.Disk.faults result.1))
+    requires { IsRunner B.served R.Disk (λ store. store.book) (λ store. store.clock) (λ v. v.items) (B.may blocks.now) (B.ran blocks.now) }
+    ensures cause { BytesCause B.served bytes.now (Rose (K.faults sink.old) (K.faults sink.new)) (DiskRose (R.Disk.faults rig) (R.Disk.faults result.1))
         (λ rules area at. Plain (R.Disk.told rig) (R.Disk.honest rig) → IsBad rules (R.Disk.seen rig) area at) result.0 }
-    ensures text { IsTrue (K.told sink.old) → BytesText bytes.now
+    ensures text { IsTrue (K.told sink.old) → BytesText B.served bytes.now
         (λ document status. Plain (R.Disk.told rig) (R.Disk.honest rig) → DocumentText document (moment_of_start start (C.last_answer clock.new)) (R.Disk.seen rig) (R.Disk.may_leave rig)
         (R.Disk.faults rig) (R.Disk.faults result.1) (R.Disk.may_leave result.1) (K.held sink.old) (K.held sink.new) status)
         (K.held sink.old) (K.held sink.new) result.0 }
@@ -156,10 +273,10 @@ fn run_bytes<K: Sink, R: Rig, C: Clock>(
     ensures telling { SameTelling R.Disk.told R.Disk.honest rig result.1 }
     ensures rig_faults { R.Disk.faults rig ≤ R.Disk.faults result.1 }
     ensures untouched { Untouched (result.1 ≡ rig) result.0 }
-    ensures orders { OrdersOf bytes.now (R.Disk.order rig) (R.Disk.orders rig) (R.Disk.order result.1) (R.Disk.orders result.1) result.0 }
+    ensures orders { OrdersOf B.served bytes.now (R.Disk.order rig) (R.Disk.orders rig) (R.Disk.order result.1) (R.Disk.orders result.1) result.0 }
     ensures asked { AsksFor start result.0 (C.times_asked clock.old) (C.times_asked clock.new) }
 {
-    let document = match read_document(alloc, bytes) {
+    let document = match read_document(alloc, bytes, blocks.are_served()) {
         Ok(document) => document,
         Err(fault) => return (put_fault(alloc, fault, sink), rig),
     };
@@ -167,7 +284,7 @@ fn run_bytes<K: Sink, R: Rig, C: Clock>(
         Start::At(moment) => moment,
         Start::Asked => clock.now(),
     };
-    run_document(alloc, moment, document, sink, rig)
+    run_document(alloc, blocks, moment, document, sink, rig)
 }
 
 /// Puts the line of a fault.
@@ -190,8 +307,9 @@ pub fn put_fault<K: Sink>(alloc: Global, fault: DocumentFault, sink: &mut K) -> 
 }
 
 // Opens the store, and makes the commands of a document.
-fn run_document<K: Sink, R: Rig>(
+fn run_document<K: Sink, R: Rig, B: Blocks<Store<R>, Outs>>(
     alloc: Global,
+    blocks: &B,
     moment: Moment,
     document: Document,
     sink: &mut K,
@@ -201,7 +319,8 @@ fn run_document<K: Sink, R: Rig>(
     requires rules { document.rules ≡ numbered document.schema }
     requires named { HasNames document.schema document.rules }
     requires numbered { All (IsNumberedCommand document.rules) document.commands }
-    requires lanes { All HasNoLanes document.commands }
+    requires lanes { B.served ≡ false → All HasNoLanes document.commands }
+    requires ready { IsRunner B.served R.Disk (λ store. store.book) (λ store. store.clock) (λ v. v.items) (B.may blocks.now) (B.ran blocks.now) }
     ensures cause { ScriptCause (Rose (K.faults sink.old) (K.faults sink.new)) (DiskRose (R.Disk.faults rig) (R.Disk.faults result.1))
         (λ area at. Plain (R.Disk.told rig) (R.Disk.honest rig) → IsBad document.rules (R.Disk.seen rig) area at) result.0 }
     ensures text { IsTrue (K.told sink.old) → Plain (R.Disk.told rig) (R.Disk.honest rig) → DocumentText document moment (R.Disk.seen rig) (R.Disk.may_leave rig)
@@ -222,7 +341,7 @@ fn run_document<K: Sink, R: Rig>(
         return (Status::OutOfMemory { done: 0 }, rig);
     }
     match Store::open(alloc, rules, rig, moment.min(GREATEST_MOMENT)) {
-        Ok(store) => run_commands(alloc, &schema, store, commands.as_slice(), sink),
+        Ok(store) => run_commands(alloc, blocks, &schema, store, commands.as_slice(), sink),
         Err((fault, rig)) => (put_unopened(alloc, fault, 0, sink), rig),
     }
 }
@@ -267,8 +386,9 @@ fn bad_line(alloc: Global, area: Area, at: u64) -> Result<Bytes, AllocError>
 }
 
 // Makes the commands one by one, puts the lines of each, and settles the store.
-fn run_commands<K: Sink, R: Rig>(
+fn run_commands<K: Sink, R: Rig, B: Blocks<Store<R>, Outs>>(
     alloc: Global,
+    blocks: &B,
     schema: &Schema,
     mut store: Store<R>,
     commands: &[Command],
@@ -280,7 +400,8 @@ fn run_commands<K: Sink, R: Rig>(
     requires rules { store.book.rules ≡ numbered schema.now }
     requires named { HasNames schema.now store.book.rules }
     requires numbered { All (IsNumberedCommand store.book.rules) commands.now }
-    requires lanes { All HasNoLanes commands.now }
+    requires lanes { B.served ≡ false → All HasNoLanes commands.now }
+    requires ready { IsRunner B.served R.Disk (λ store. store.book) (λ store. store.clock) (λ v. v.items) (B.may blocks.now) (B.ran blocks.now) }
     ensures cause { ScriptCause (Rose (K.faults sink.old) (K.faults sink.new)) (DiskRose (R.Disk.faults store.book.rig) (R.Disk.faults result.1))
         (λ area at. Plain (R.Disk.told store.book.rig) (R.Disk.honest store.book.rig) → (e : Payloads)
         → StandsOn (world_of store.book store.clock e) (R.Disk.may_leave store.book.rig) → ⊥) result.0 }
@@ -296,7 +417,7 @@ fn run_commands<K: Sink, R: Rig>(
 {
     let mut done = 0u32;
     for command in commands {
-        let lines = match make(alloc, schema, store, command) {
+        let lines = match make(alloc, blocks, schema, store, command) {
             Ok((next, lines)) => {
                 store = next;
                 lines
@@ -314,17 +435,19 @@ fn run_commands<K: Sink, R: Rig>(
 }
 
 // Makes a command, and gives its lines. With `Err` the disk comes back.
-fn make<R: Rig>(
+fn make<R: Rig, B: Blocks<Store<R>, Outs>>(
     alloc: Global,
+    blocks: &B,
     schema: &Schema,
-    mut store: Store<R>,
+    store: Store<R>,
     command: &Command,
 ) -> Result<(Store<R>, Bytes), (OpenFault, R)>
     requires spellable { IsSpellable schema.now }
     requires rules { store.book.rules ≡ numbered schema.now }
     requires named { HasNames schema.now store.book.rules }
     requires numbered { IsNumberedCommand store.book.rules command.now }
-    requires lanes { HasNoLanes command.now }
+    requires lanes { B.served ≡ false → HasNoLanes command.now }
+    requires ready { IsRunner B.served R.Disk (λ store. store.book) (λ store. store.clock) (λ v. v.items) (B.may blocks.now) (B.ran blocks.now) }
     ensures same_rules { IfOk result (λ it. it.0.book.rules ≡ store.book.rules) }
     ensures serves { IfOk result (λ it. Plain (R.Disk.told store.book.rig) (R.Disk.honest store.book.rig) → (e : Payloads)
         → Carries R.Disk.may_leave R.Disk.faults schema.now command.now store.book it.0.book store.clock it.0.clock e it.1) }
@@ -346,9 +469,10 @@ fn make<R: Rig>(
             Err(fault) => Err(fault),
         };
     }
-    match perform(alloc, schema, &mut store, command) {
+    let (store, lines) = serve(alloc, blocks, schema, store, command);
+    match lines {
         Ok(lines) => Ok((store, lines)),
-        Err(_) => Err(starved(store)),
+        Err(AllocError) => Err(starved(store)),
     }
 }
 

@@ -7,7 +7,7 @@ use Rattle.documents.specs.declared.words.Request.TheVariants.{Run, Check, Load}
 use Rattle.script_runner.specs.Outcomes.{RunCause, IsBad}
 use Rattle.documents.specs.Requests.{request_of}
 use Rattle.script_runner.proofs.Completes.{ends_well}
-use Rattle.script_runner.proofs.run.run_plain.Goals as goal
+use Rattle.script_runner.proofs.program.run_words.Goals as goal
 
 pub returns-in-Some-Run-clause-complete : goal.returns-in-Some-Run-clause-complete
 returns-in-Some-Run-clause-complete g c = λ quiet.
@@ -18,8 +18,8 @@ returns-in-Some-Run-clause-complete g c = λ quiet.
     let read_rose = Rose (g.S.Source.faults c.args.source.now) (g.S.Source.faults c.run_source.new.source) in
     let write_rose = Rose (g.K.Sink.faults c.args.sink.now) (g.K.Sink.faults c.run_source.new.sink) in
     let rig_rose = DiskRose (g.R.Disk.faults c.args.rig) (g.R.Disk.faults c.run_source.result.1) in
-    ends_well (Plain (g.R.Disk.told c.args.rig) (g.R.Disk.honest c.args.rig)) (g.R.Disk.seen c.args.rig) told left read_rose write_rose rig_rose quiet asked c.run_source.result.0
-    (subst (λ (r : Option Request). RunCause r told left read_rose write_rose rig_rose
+    ends_well g.B.served (Plain (g.R.Disk.told c.args.rig) (g.R.Disk.honest c.args.rig)) (g.R.Disk.seen c.args.rig) told left read_rose write_rose rig_rose quiet asked c.run_source.result.0
+    (subst (λ (r : Option Request). RunCause g.B.served r told left read_rose write_rose rig_rose
     (λ rules area at. Plain (g.R.Disk.told c.args.rig) (g.R.Disk.honest c.args.rig) → IsBad rules (g.R.Disk.seen c.args.rig) area at) c.run_source.result.0) is c.run_source.ensures.cause)
 
 pub returns-in-Some-Check-clause-complete : goal.returns-in-Some-Check-clause-complete
@@ -31,8 +31,8 @@ returns-in-Some-Check-clause-complete g c = λ quiet.
     let read_rose = Rose (g.S.Source.faults c.args.source.now) (g.S.Source.faults c.check_source.new.source) in
     let write_rose = Rose (g.K.Sink.faults c.args.sink.now) (g.K.Sink.faults c.check_source.new.sink) in
     let rig_rose = DiskRose (g.R.Disk.faults c.args.rig) (g.R.Disk.faults c.args.rig) in
-    ends_well (Plain (g.R.Disk.told c.args.rig) (g.R.Disk.honest c.args.rig)) (g.R.Disk.seen c.args.rig) told left read_rose write_rose rig_rose quiet asked c.check_source.result
-    (subst (λ (r : Option Request). RunCause r told left read_rose write_rose rig_rose
+    ends_well g.B.served (Plain (g.R.Disk.told c.args.rig) (g.R.Disk.honest c.args.rig)) (g.R.Disk.seen c.args.rig) told left read_rose write_rose rig_rose quiet asked c.check_source.result
+    (subst (λ (r : Option Request). RunCause g.B.served r told left read_rose write_rose rig_rose
     (λ rules area at. Plain (g.R.Disk.told c.args.rig) (g.R.Disk.honest c.args.rig) → IsBad rules (g.R.Disk.seen c.args.rig) area at) c.check_source.result) is c.check_source.ensures.cause)
 
 pub returns-in-Some-Load-clause-complete : goal.returns-in-Some-Load-clause-complete
@@ -44,6 +44,6 @@ returns-in-Some-Load-clause-complete g c = λ quiet.
     let read_rose = Rose (g.S.Source.faults c.args.source.now) (g.S.Source.faults c.args.source.now) in
     let write_rose = Rose (g.K.Sink.faults c.args.sink.now) (g.K.Sink.faults c.run_load.new.sink) in
     let rig_rose = DiskRose (g.R.Disk.faults c.args.rig) (g.R.Disk.faults c.run_load.result.1) in
-    ends_well (Plain (g.R.Disk.told c.args.rig) (g.R.Disk.honest c.args.rig)) (g.R.Disk.seen c.args.rig) told left read_rose write_rose rig_rose quiet asked c.run_load.result.0
-    (subst (λ (r : Option Request). RunCause r told left read_rose write_rose rig_rose
+    ends_well g.B.served (Plain (g.R.Disk.told c.args.rig) (g.R.Disk.honest c.args.rig)) (g.R.Disk.seen c.args.rig) told left read_rose write_rose rig_rose quiet asked c.run_load.result.0
+    (subst (λ (r : Option Request). RunCause g.B.served r told left read_rose write_rose rig_rose
     (λ rules area at. Plain (g.R.Disk.told c.args.rig) (g.R.Disk.honest c.args.rig) → IsBad rules (g.R.Disk.seen c.args.rig) area at) c.run_load.result.0) is c.run_load.ensures.cause)

@@ -8,7 +8,7 @@ use Rattle.script_runner.proofs.Causes.{stopped_cause}
 use Rattle.script_runner.proofs.Ends.{orders_none}
 use Rattle.script_runner.proofs.Moves.{plain_then}
 use Rattle.script_runner.proofs.Openings.{found_stands, found_opens, ran_opened, cause_by, counts_stop, bad_is, unopened_text, no_orders}
-use Rattle.script_runner.proofs.run.run_document.Goals as goal
+use Rattle.script_runner.proofs.program.run_document.Goals as goal
 
 pub returns-then-len-clause-orders : goal.returns-then-len-clause-orders
 returns-then-len-clause-orders g c = record { n = 0; gives = orders_none (g.R.Disk.order c.args.rig) (g.R.Disk.orders c.args.rig); made = inl refl }
