@@ -1,4 +1,4 @@
-//! Tests of a book that many share: lanes and workers on threads, over a disk in memory and over files. Nothing else stands here.
+//! Tests of many seats over one book: lanes and workers on threads, over a disk in memory and over files. Nothing else stands here.
 #![tactic(auto)]
 
 #[cfg(test)]
@@ -15,6 +15,8 @@ mod many;
 mod orders;
 #[cfg(test)]
 mod restores;
+#[cfg(test)]
+mod seats;
 #[cfg(test)]
 mod stores;
 #[cfg(test)]

@@ -27,6 +27,8 @@ pub(crate) const HOLDS: EdgeNo = EdgeNo(1);
 /// What the clock says in all of these tests.
 pub(crate) const NOW: Moment = 1000;
 
+pub(crate) type MemBook = Book<ShardGraph, MemDisk>;
+
 /// A blank disk. `fails` are the numbers, from 1, of the calls that are to fail.
 pub(crate) fn blank(alloc: Global, fails: &[u64]) -> Result<MemDisk, Fail> {
     let journal = DiskBytes::of(alloc, b"")?;
@@ -34,14 +36,26 @@ pub(crate) fn blank(alloc: Global, fails: &[u64]) -> Result<MemDisk, Fail> {
     Ok(MemDisk::of(alloc, journal, vault, Numbers::of(alloc, fails)?)?)
 }
 
-// The rules of these tests.
-fn rules(alloc: Global) -> Result<Rules, Fail> {
+/// The rules of these tests.
+pub(crate) fn rules(alloc: Global) -> Result<Rules, Fail> {
     let schema = parse_schema(alloc, SCHEMA)?;
     Ok(Rules::of(alloc, &schema)?)
 }
 
-// Opens the store that stands on the disk.
-fn open<R: Rig + Drop>(alloc: Global, rules: Rules, disk: R) -> Result<Book<ShardGraph, R>, Fail>
+/// The same rules twice.
+pub(crate) fn rules_twice(alloc: Global) -> Result<(Rules, Rules), Fail>
+    ensures { IfOk result (λ r. r.0 ≡ r.1) }
+{
+    let schema = parse_schema(alloc, SCHEMA)?;
+    Ok((Rules::of(alloc, &schema)?, Rules::of(alloc, &schema)?))
+}
+
+/// Opens the store that stands on the disk.
+pub(crate) fn open<R: Rig + Drop>(
+    alloc: Global,
+    rules: Rules,
+    disk: R,
+) -> Result<Book<ShardGraph, R>, Fail>
     ensures { IfOk result (λ book. book.rules ≡ rules) }
 {
     let graph = ShardGraph::empty(alloc, &rules)?;
