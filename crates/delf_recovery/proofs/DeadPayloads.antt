@@ -1,5 +1,5 @@
 -- A scrub of a payload that is not needed, in either area.
-use Rattle.std.proofs.Common.{◌≡◌, ℕ, zero, suc, ◌+◌, ◌<◌, ◌≤◌, List, [], ◌∷◌, length, replicate, refl, sym, ap, ◌∙◌, subst, arith, inl, inr, ◌⊎◌}
+use Rattle.std.proofs.Common.{◌≡◌, ℕ, zero, suc, ◌+◌, ◌<◌, ◌≤◌, Bool, List, [], ◌∷◌, length, replicate, refl, sym, ap, ◌∙◌, subst, arith, inl, inr, ◌⊎◌}
 use Rattle.std.proofs.lemmas.Bool.{cases_lt}
 use Rattle.std.proofs.lemmas.List.{length-replicate}
 use Rattle.delf_disk.specs.declared.area.Area.{Area}
@@ -9,7 +9,7 @@ use Rattle.delf_disk.specs.Moments.{Runs, Leaves}
 use Rattle.delf_disk.proofs.Moments.{leaves_first}
 use Rattle.gate_log.specs.Records.{Record, payload_of}
 use Rattle.gate_log.specs.Logs.{Stands, StandIn}
-use Rattle.gate_log.specs.Steps.{MayScrub, Scrubs}
+use Rattle.gate_log.specs.Steps.{PayloadRead, MayScrub, Scrubs}
 use Rattle.delf_model.specs.declared.entry.Entry.{Entry}
 use Rattle.delf_model.specs.RuleSet.{RuleSet}
 use Rattle.delf_model.specs.State.{State}
@@ -20,10 +20,11 @@ use Rattle.store_laws.specs.Stores.{journal_of, vault_of}
 use Rattle.store_laws.specs.Steps.{payload_here, IsZeroed, KeepsOthers}
 use Rattle.store_laws.specs.Moves.{RestIn}
 use Rattle.store_laws.proofs.Appends.{journal_sizes, vault_sizes}
+use Rattle.store_laws.proofs.Spelled.{told_log}
 use Rattle.store_laws.proofs.Scrubs.{journal_may, journal_scrubs, vault_may, vault_scrubs}
 use Rattle.delf_book.specs.Reads.{carrier_in}
 use Rattle.delf_book.specs.Writing.{Rests}
-use Rattle.delf_recovery.specs.Mending.{IsZero}
+use Rattle.delf_recovery.specs.Mending.{IsZero, AreNoted}
 use Rattle.delf_recovery.proofs.Records.{many_records}
 
 module _ (rules : RuleSet) (h : List Entry) (e : Payloads) (i : ℕ) (sizes : List (ℕ × ℕ)) where
@@ -62,6 +63,19 @@ module _ (rules : RuleSet) (h : List Entry) (e : Payloads) (i : ℕ) (it place :
       let now = zeroed rules h e i sizes it seen next (rests seen image) dead (subst (λ (a : Area). Stands a sizes seen) is (stand seen image)) here in
       (zero_now (carrier_in it i) seen next now.0, now.1, here.other)
 
+-- zeros that were read are zeros of the payload
+
+zeros_there : (n : ℕ) (payload : List ℕ) → replicate n 0 ≡ payload → payload ≡ replicate (length payload) 0
+zeros_there n payload read = sym read ∙ ap (λ (k : ℕ). replicate k 0) (sym (length-replicate n 0) ∙ ap length read)
+
+pub blank_zero : (i n : ℕ) (it : Area) (sizes : List (ℕ × ℕ)) (c : Areas) → Stands it sizes c → PayloadRead it sizes i c (replicate n 0) → IsZero (carrier_in it i) c
+blank_zero i n area.Journal sizes c stood read =
+    let told = told_log stood.mark stood.records c.journal stood.log in
+    zeros_there n (payload_of (journal_of c) i) (read stood.mark stood.records stood.sized stood.log ∙ ap (λ (rs : List Record). payload_of rs i) (sym told.1))
+blank_zero i n area.Vault sizes c stood read =
+    let told = told_log stood.mark stood.records c.vault stood.log in
+    zeros_there n (payload_of (vault_of c) i) (read stood.mark stood.records stood.sized stood.log ∙ ap (λ (rs : List Record). payload_of rs i) (sym told.1))
+
 -- one record further
 
 apart : (it : Area) (k i : ℕ) → k < i → carrier_in it k ≡ carrier_in it i → ⊥
@@ -79,6 +93,18 @@ zero_further s it i c d before one others k inside dead =
     by_place (inr there) =
         let same : i ≡ k = omega (arith, there, inside) in
         subst (λ (j : ℕ). IsZero (carrier_in it j) d) same (one (subst (λ (j : ℕ). IsLive s (carrier_in it j) → ⊥) (sym same) dead))
+
+-- what was noted stays zeros
+pub noted_further : (it : Area) (i : ℕ) (notes : List Bool) (c d : Areas) → AreNoted it c notes → (IsZero (carrier_in it i) c → IsZero (carrier_in it i) d) →
+    KeepsOthers (carrier_in it i) c d → AreNoted it d notes
+noted_further it i notes c d noted stays others k is = by_place (cases_lt k i) (cases_lt i k)
+  where
+    by_place : (k < i) ⊎ (i ≤ k) → (i < k) ⊎ (k ≤ i) → IsZero (carrier_in it k) d
+    by_place (inl below) other = zero_stays (carrier_in it k) c d (others (carrier_in it k) (apart it k i below)) (noted k is)
+    by_place (inr there) (inl above) = zero_stays (carrier_in it k) c d (others (carrier_in it k) (λ same. apart it i k above (sym same))) (noted k is)
+    by_place (inr there) (inr here) =
+        let same : i ≡ k = omega (arith, there, here) in
+        subst (λ (j : ℕ). IsZero (carrier_in it j) d) same (stays (subst (λ (j : ℕ). IsZero (carrier_in it j) c) (sym same) (noted k is)))
 
 -- and behind the last record there is no payload
 

@@ -10,3 +10,5 @@ mod Mended
 mod Spelled
 mod Faults
 mod Wholes
+mod Notes
+mod Pieces

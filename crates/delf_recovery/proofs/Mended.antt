@@ -15,7 +15,7 @@ use Rattle.delf_model.specs.declared.entry.Entry.{Entry}
 use Rattle.delf_model.specs.RuleSet.{RuleSet}
 use Rattle.delf_model.specs.Step.{after}
 use Rattle.delf_model.specs.Legal.{Legal}
-use Rattle.delf_model.specs.Payloads.{Payloads, Journal, Vault}
+use Rattle.delf_model.specs.Payloads.{Payloads, Carrier, Journal, Vault}
 use Rattle.payload_laws.specs.Holders.{IsLive}
 use Rattle.store_laws.specs.Logged.{held}
 use Rattle.store_laws.specs.Stores.{StandBut, Clean, AreScrubbed, journal_of, vault_of}
@@ -27,6 +27,7 @@ use Rattle.delf_book.proofs.Writes.{leaves_joined}
 use Rattle.delf_recovery.specs.Mending.{Standing, IsZero}
 use Rattle.delf_recovery.specs.Reading.{HasItems}
 use Rattle.delf_recovery.proofs.Records.{many_records}
+use Rattle.delf_recovery.proofs.Notes.{dropped_zero}
 
 module _ (rules : RuleSet) (h : List Entry) (c : Areas) (sizes : List (ℕ × ℕ)) (standing : Standing rules h c) (sized : map size_of (vault_of c) ≡ sizes) (has : HasItems (after rules h).items sizes) where
   pub stands_in : (place : Area) (images : Areas → Type 0) → place ≡ area.Vault → Only c images → StandIn place sizes images
@@ -54,6 +55,9 @@ module _ (rules : RuleSet) (h : List Entry) (c : Areas) (sizes : List (ℕ × �
     pub drop_leaves : {D : Type 0} {moment : D → ℕ} {may_leave : D → Areas → Type 0} {left_since : D → ℕ → Areas → Type 0} {old new : D} → Only c (may_leave old) →
         Runs moment may_leave left_since (MayDrop area.Vault sizes) old new → Leaves moment may_leave left_since (StandBut rules h e) old new
     drop_leaves only run = leaves_first run (λ m x image may. may_stand x (subst (λ (y : Areas). MayDrop area.Vault sizes y x) (only m image) may))
+
+    pub drop_zeros : (d : Areas) → Drops area.Vault sizes c d → (carrier : Carrier) → IsZero carrier c → IsZero carrier d
+    drop_zeros d step = let a = stands_ahead rules h e c but standing.journal standing.vault long in dropped_zero rules h a.0 sizes c d a.1.more sized standing.vault step
 
 pub exact_sizes : (rules : RuleSet) (h : List Entry) (sizes : List (ℕ × ℕ)) → HasItems (after rules h).items sizes → length sizes ≤ length (after rules h).items → sizes ≡ map item_sizes (after rules h).items
 exact_sizes rules h sizes has none = sym (take_all (length (after rules h).items) sizes none) ∙ has.sized

@@ -1,5 +1,6 @@
 -- What an opening makes of areas that it has read.
-use Rattle.std.specs.Prelude.{◌≡◌, List, length, replicate}
+use Rattle.std.specs.Prelude.{◌≡◌, ℕ, Bool, true, List, Some, length, replicate, slice_get}
+use Rattle.delf_disk.specs.declared.area.Area.{Area}
 use Rattle.delf_disk.specs.Areas.{Areas}
 use Rattle.delf_model.specs.declared.entry.Entry.{Entry}
 use Rattle.delf_model.specs.RuleSet.{RuleSet}
@@ -8,6 +9,7 @@ use Rattle.store_laws.specs.Logged.{IsLog}
 use Rattle.store_laws.specs.Stores.{StandBut, journal_mark, vault_mark}
 use Rattle.store_laws.specs.Steps.{payload_here}
 use Rattle.store_laws.specs.Moves.{RestIn}
+use Rattle.delf_book.specs.Reads.{carrier_in}
 
 -- both areas have their marks and stand for the history
 pub record Standing (rules : RuleSet) (history : List Entry) (areas : Areas) : Type 0 where
@@ -24,3 +26,7 @@ pub record Resting (rules : RuleSet) (history : List Entry) (images : Areas → 
 -- zeros stand in the payload of this record
 abbrev pub IsZero : Carrier → Areas → Type 0
 IsZero carrier areas = payload_here areas carrier ≡ replicate (length (payload_here areas carrier)) 0
+
+-- zeros stand in the payloads of the records of an area that are noted
+abbrev pub AreNoted : Area → Areas → List Bool → Type 0
+AreNoted area areas notes = (i : ℕ) → slice_get notes i ≡ Some true → IsZero (carrier_in area i) areas

@@ -19,6 +19,11 @@ abbrev pub rig_in : {G R : Type 0} → Result (Booked G R) (OpenFault × R) → 
 rig_in (Ok book) = book.rig
 rig_in (Err it) = it.1
 
+-- the disk that an opening gives back
+abbrev pub disk_in : {P D : Type 0} → Result (P × D) (OpenFault × D) → D
+disk_in (Ok it) = it.1
+disk_in (Err it) = it.1
+
 -- these areas stand for this history, whose entries have a spelling
 pub record StandsNow (rules : RuleSet) (history : List Entry) (areas : Areas) : Type 0 where
   pub entries : AreEntries history

@@ -1,13 +1,15 @@
 //! The records of the journal, read as entries into a fold.
-ghost use Rattle.std.specs.Prelude.{◌≡◌, ◌<◌, ◌≤◌, [], length, IfOk, IfErr, IfSome, IfNone};
+ghost use Rattle.std.specs.Prelude.{◌≡◌, ◌<◌, ◌≤◌, [], true, length, IfOk, IfErr, IfSome, IfNone};
 ghost use Rattle.delf_disk.specs.Images.{Same};
 ghost use Rattle.delf_disk.specs.Causes.{HasCause};
 ghost use Rattle.delf_disk.specs.Plain.{Plain, SameKind};
 ghost use Rattle.delf_disk.specs.Moments.{Runs};
-ghost use Rattle.gate_log.specs.Logs.{Fronts};
+ghost use Rattle.gate_log.specs.Logs.{Fronts, StandIn};
 ghost use Rattle.delf_recovery.specs.Opening.{IsNotBad};
+ghost use Rattle.delf_recovery.specs.Mending.{AreNoted};
 ghost use Rattle.delf_recovery.specs.Reading.{CountsRead, IsRead, IsNoEntry, JudgesEntry, ReadsEntries, EndsWrong};
 
+use crate::blank::note_blank;
 use crate::fault::OpenFault;
 use delf_book::Fold;
 use delf_disk::{Disk, Failed};
@@ -73,13 +75,18 @@ pub(crate) fn take_record<G: GraphStore, D: Disk>(
 }
 
 /// Takes the entries of the records into a fold of the blank history, up to the first record that is that of no entry
-/// that may come next, and gives their number.
+/// that may come next, and gives their number. Of an area that is whole it notes which of the payloads are zeros.
 pub(crate) fn read_entries<G: GraphStore, D: Disk>(
     fold: &mut Fold<G>,
     log: &GateLog,
+    whole: bool,
+    notes: &mut [bool],
     disk: &mut D,
 ) -> Result<u32, OpenFault>
     requires blank { fold.old.history ≡ [] }
+    requires room { length notes.old ≡ length log.now.sizes }
+    requires stands { whole ≡ true → Plain (D.told disk.old) (D.honest disk.old) → StandIn log.now.area log.now.sizes (D.may_leave disk.old) }
+    requires noted { Plain (D.told disk.old) (D.honest disk.old) → AreNoted log.now.area (D.seen disk.old) notes.old }
     requires fronts { Plain (D.told disk.old) (D.honest disk.old) → Fronts log.now.area log.now.sizes (D.seen disk.old) }
 
     ensures fault { IfErr result IsNotBad }
@@ -88,6 +95,7 @@ pub(crate) fn read_entries<G: GraphStore, D: Disk>(
         fold.new.rules fold.new.history n) }
     ensures ended { IfOk result (λ n. EndsWrong (Plain (D.told disk.old) (D.honest disk.old)) log.now.area log.now.sizes (D.seen disk.old)
         fold.new.rules fold.new.history n) }
+    ensures noted { IfOk result (λ n. Plain (D.told disk.old) (D.honest disk.old) → AreNoted log.now.area (D.seen disk.old) notes.new) }
 
     ensures seen { Plain (D.told disk.old) (D.honest disk.old) → D.seen disk.new ≡ D.seen disk.old }
     ensures any_moment { Plain (D.told disk.old) (D.honest disk.old)
@@ -100,6 +108,7 @@ pub(crate) fn read_entries<G: GraphStore, D: Disk>(
         if !take_record(fold, log, disk, i)? {
             return Ok(i);
         }
+        note_blank(log, whole, disk, i, notes)?;
     }
     Ok(count)
 }

@@ -1,16 +1,18 @@
 //! The records of the vault, held against the items of a fold.
-ghost use Rattle.std.specs.Prelude.{◌≡◌, ◌<◌, ◌≤◌, ◌↔◌, length, IsTrue, IfOk};
+ghost use Rattle.std.specs.Prelude.{◌≡◌, ◌<◌, ◌≤◌, ◌↔◌, true, length, IsTrue, IfOk, OnOk};
 ghost use Rattle.delf_disk.specs.Images.{Same};
 ghost use Rattle.delf_disk.specs.Causes.{HasCause};
 ghost use Rattle.delf_disk.specs.Plain.{Plain, SameKind};
 ghost use Rattle.delf_disk.specs.Moments.{Runs};
 ghost use Rattle.entry_codec.specs.declared.limits.TheConstants.{LARGEST_PAYLOAD};
 ghost use Rattle.entry_codec.specs.ItemHead.{item_size, IsTypeBounded};
-ghost use Rattle.gate_log.specs.Logs.{Fronts};
+ghost use Rattle.gate_log.specs.Logs.{Fronts, StandIn};
 ghost use Rattle.ledger.specs.Ledgers.{state_of};
 ghost use Rattle.entry_codec.specs.EntryHead.{AreEntries};
+ghost use Rattle.delf_recovery.specs.Mending.{AreNoted};
 ghost use Rattle.delf_recovery.specs.Reading.{JudgesItem, ReadsItems, EndsUnspelled};
 
+use crate::blank::note_blank;
 use delf_book::Fold;
 use delf_disk::{Disk, Failed};
 use delf_model::{GraphStore, HEAD_LIMIT, Item};
@@ -66,17 +68,24 @@ pub(crate) fn is_item_at<D: Disk>(
     Ok(same_bytes(&found[..len], &wanted[..wanted_len]))
 }
 
-/// How many records from the first on are those of the items in turn.
+/// How many records from the first on are those of the items in turn. Of an area that is whole it notes which of their
+/// payloads are zeros.
 pub(crate) fn read_items<G: GraphStore, D: Disk>(
     fold: &Fold<G>,
     log: &GateLog,
+    whole: bool,
+    notes: &mut [bool],
     disk: &mut D,
 ) -> Result<u32, Failed>
     requires entries { AreEntries fold.now.history }
+    requires room { length notes.old ≡ length log.now.sizes }
+    requires stands { whole ≡ true → Plain (D.told disk.old) (D.honest disk.old) → StandIn log.now.area log.now.sizes (D.may_leave disk.old) }
+    requires noted { Plain (D.told disk.old) (D.honest disk.old) → AreNoted log.now.area (D.seen disk.old) notes.old }
     requires fronts { Plain (D.told disk.old) (D.honest disk.old) → Fronts log.now.area log.now.sizes (D.seen disk.old) }
 
     ensures read { IfOk result (ReadsItems (Plain (D.told disk.old) (D.honest disk.old)) log.now.area log.now.sizes (D.seen disk.old) (state_of fold.now).items) }
     ensures ended { IfOk result (EndsUnspelled (Plain (D.told disk.old) (D.honest disk.old)) log.now.area log.now.sizes (D.seen disk.old) (state_of fold.now).items) }
+    ensures noted { OnOk result (Plain (D.told disk.old) (D.honest disk.old) → AreNoted log.now.area (D.seen disk.old) notes.new) }
 
     ensures seen { Plain (D.told disk.old) (D.honest disk.old) → D.seen disk.new ≡ D.seen disk.old }
     ensures any_moment { Plain (D.told disk.old) (D.honest disk.old)
@@ -92,6 +101,7 @@ pub(crate) fn read_items<G: GraphStore, D: Disk>(
         if !is_item_at(log, disk, i, &item)? {
             return Ok(i);
         }
+        note_blank(log, whole, disk, i, notes)?;
     }
     Ok(count)
 }

@@ -14,15 +14,16 @@ ghost use Rattle.delf_book.specs.Keeping.{journal_sizes};
 ghost use Rattle.store_laws.specs.Stores.{StandBut, journal_mark};
 ghost use Rattle.entry_codec.specs.EntryHead.{AreEntries};
 ghost use Rattle.opening_laws.specs.Places.{ReadsJournal};
+ghost use Rattle.delf_recovery.specs.Mending.{AreNoted};
 ghost use Rattle.delf_recovery.specs.Reading.{CountsRead, ShowsBadJournal};
 
+use crate::blank::no_notes;
 use crate::entries::read_entries;
 use crate::fault::OpenFault;
-use crate::starting::{JOURNAL_MARK, start_area};
+use crate::starting::{JOURNAL_MARK, ReadLog, start_area};
 use delf_book::Fold;
 use delf_disk::{Area, Disk};
 use delf_model::GraphStore;
-use gate_log::GateLog;
 use std::alloc::Global;
 
 /// Starts the journal and takes its entries into a fold of the blank history. It is bad at its first record that is not
@@ -31,20 +32,21 @@ pub(crate) fn read_journal<G: GraphStore, D: Disk>(
     alloc: Global,
     fold: &mut Fold<G>,
     disk: &mut D,
-) -> Result<GateLog, OpenFault>
+) -> Result<ReadLog, OpenFault>
     requires blank { fold.old.history ≡ [] }
     requires only { Plain (D.told disk.old) (D.honest disk.old) → Only (D.seen disk.old) (D.may_leave disk.old) }
 
-    ensures rules { IfOk result (λ log. fold.new.rules ≡ fold.old.rules) }
-    ensures area { IfOk result (λ log. log.area ≡ JournalArea) }
-    ensures sizes { IfOk result (λ log. log.sizes ≡ journal_sizes (start fold.new.rules) fold.new.history) }
-    ensures entries { IfOk result (λ log. AreEntries fold.new.history) }
-    ensures legal { IfOk result (λ log. Legal fold.new.rules fold.new.history) }
-    ensures reads { IfOk result (λ log. Plain (D.told disk.old) (D.honest disk.old)
+    ensures rules { IfOk result (λ read. fold.new.rules ≡ fold.old.rules) }
+    ensures area { IfOk result (λ read. read.log.area ≡ JournalArea) }
+    ensures sizes { IfOk result (λ read. read.log.sizes ≡ journal_sizes (start fold.new.rules) fold.new.history) }
+    ensures entries { IfOk result (λ read. AreEntries fold.new.history) }
+    ensures legal { IfOk result (λ read. Legal fold.new.rules fold.new.history) }
+    ensures reads { IfOk result (λ read. Plain (D.told disk.old) (D.honest disk.old)
         → ReadsJournal fold.new.rules fold.new.history (D.seen disk.old).journal) }
-    ensures starts { IfOk result (λ log. Plain (D.told disk.old) (D.honest disk.old)
-        → Starts JournalArea journal_mark log.sizes (D.seen disk.old) (D.seen disk.new)) }
-    ensures only { IfOk result (λ log. Plain (D.told disk.old) (D.honest disk.old) → Only (D.seen disk.new) (D.may_leave disk.new)) }
+    ensures starts { IfOk result (λ read. Plain (D.told disk.old) (D.honest disk.old)
+        → Starts JournalArea journal_mark read.log.sizes (D.seen disk.old) (D.seen disk.new)) }
+    ensures only { IfOk result (λ read. Plain (D.told disk.old) (D.honest disk.old) → Only (D.seen disk.new) (D.may_leave disk.new)) }
+    ensures noted { IfOk result (λ read. Plain (D.told disk.old) (D.honest disk.old) → AreNoted JournalArea (D.seen disk.new) read.notes.items) }
     ensures bad { IfErr result (λ fault. Plain (D.told disk.old) (D.honest disk.old)
         → ShowsBadJournal fold.old.rules (D.seen disk.old).journal fault) }
 
@@ -60,12 +62,16 @@ pub(crate) fn read_journal<G: GraphStore, D: Disk>(
     ensures cause { CountsRead (D.faults disk.old) (D.faults disk.new) result }
 {
     let front = start_area(alloc, disk, Area::Journal, JOURNAL_MARK)?;
-    let read = read_entries(fold, &front.log, disk)?;
+    let mut notes = no_notes(alloc, front.log.count())?;
+    let read = read_entries(fold, &front.log, front.whole, &mut notes, disk)?;
     if read < front.log.count() || !front.whole {
         return Err(OpenFault::BadStore {
             area: Area::Journal,
             at: front.log.gate(read),
         });
     }
-    Ok(front.log)
+    Ok(ReadLog {
+        log: front.log,
+        notes,
+    })
 }

@@ -2,6 +2,8 @@
 //! them.
 #![tactic(auto)]
 
+mod ahead;
+mod blank;
 mod entries;
 mod fault;
 mod items;
@@ -9,6 +11,8 @@ mod journal;
 mod mending;
 mod open;
 mod parts;
+mod piece;
+mod read_ahead;
 mod reading;
 mod scrubs;
 mod starting;

@@ -17,8 +17,8 @@ ghost use Rattle.opening_laws.specs.Places.{BadPlace};
 ghost use Rattle.delf_book.specs.Holding.{StandWhole};
 ghost use Rattle.delf_recovery.specs.Opening.{rig_in, StandsNow, IsNotBad, IsBadAt, OnlyBad, StaysUnwritten, CountsOpening};
 
+use crate::ahead::open_ahead;
 use crate::fault::OpenFault;
-use crate::parts::open_parts;
 use delf_book::Book;
 use delf_disk::Rig;
 use delf_model::{GraphStore, Rules};
@@ -26,8 +26,9 @@ use history_laws::legal_is_sound;
 use std::alloc::Global;
 
 /// Opens the store that stands on this disk, for a schema with these rules. A sync comes first. A blank area is given
-/// its mark. The journal is read, then the vault, each once and from the front. One vault record that no entry names is
-/// dropped, zeros are written over every payload that is not needed, and a sync comes last.
+/// its mark. The journal is read, then the vault, each from the front and in pieces of 65,536 bytes. One vault record that
+/// no entry names is dropped, zeros are written over every payload that is not needed and not zeros already, and a sync
+/// comes last.
 ///
 /// With `Err` the disk comes back. `BadStore` comes exactly where a place is bad, the first one; it writes nothing to a
 /// store whose journal is bad.
@@ -81,9 +82,8 @@ pub fn open_book<G: GraphStore + Drop, R: Rig>(
     ensures cause { CountsOpening (R.Disk.faults rig) (R.Disk.faults (rig_in result)) result }
 {
     legal_is_sound();
-    let mut rig = rig;
-    match open_parts(alloc, rules, graph, &mut rig) {
-        Ok(parts) => Ok(parts.fold.into_book(parts.journal, parts.vault, rig)),
-        Err(fault) => Err((fault, rig)),
+    match open_ahead(alloc, rules, graph, rig) {
+        Ok((parts, rig)) => Ok(parts.fold.into_book(parts.journal, parts.vault, rig)),
+        Err(it) => Err(it),
     }
 }

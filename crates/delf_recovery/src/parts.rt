@@ -18,7 +18,7 @@ ghost use Rattle.delf_recovery.specs.Reading.{CountsRead, TellsPlace, IsJournals
 
 use crate::fault::OpenFault;
 use crate::mending::mend;
-use crate::reading::read_areas;
+use crate::reading::{Logs, read_areas};
 use delf_book::{Fold, fold};
 use delf_disk::Disk;
 use delf_model::{GraphStore, Rules};
@@ -79,17 +79,28 @@ pub(crate) fn open_parts<G: GraphStore + Drop, D: Disk>(
         Err(_) => return Err(OpenFault::DiskFault),
     }
     let mut fold = fold(alloc, rules, graph);
-    let mut logs = match read_areas(alloc, &mut fold, disk) {
+    let logs = match read_areas(alloc, &mut fold, disk) {
         Ok(logs) => logs,
         Err(fault) => return Err(fault),
     };
-    match mend(&fold, &mut logs.journal, &mut logs.vault, disk) {
+    let Logs {
+        mut journal,
+        mut vault,
+    } = logs;
+    match mend(
+        &fold,
+        &mut journal.log,
+        &journal.notes,
+        &mut vault.log,
+        &vault.notes,
+        disk,
+    ) {
         Ok(()) => (),
         Err(_) => return Err(OpenFault::DiskFault),
     }
     Ok(Parts {
         fold,
-        journal: logs.journal,
-        vault: Vault::over(logs.vault),
+        journal: journal.log,
+        vault: Vault::over(vault.log),
     })
 }

@@ -17,23 +17,23 @@ ghost use Rattle.delf_book.specs.Keeping.{journal_sizes};
 ghost use Rattle.store_laws.specs.Stores.{StandBut, vault_of};
 ghost use Rattle.opening_laws.specs.Places.{BadPlace, ReadsJournal};
 ghost use Rattle.delf_recovery.specs.Opening.{StandsNow, IsBadAt, IsNotBad};
-ghost use Rattle.delf_recovery.specs.Mending.{Standing};
+ghost use Rattle.delf_recovery.specs.Mending.{Standing, AreNoted};
 ghost use Rattle.delf_recovery.specs.Reading.{CountsRead, HasItems, TellsPlace, IsJournals, ReadsVault};
 
 use crate::fault::OpenFault;
 use crate::journal::read_journal;
+use crate::starting::ReadLog;
 use crate::vaults::read_vault;
 use delf_book::Fold;
 use delf_disk::Disk;
 use delf_model::GraphStore;
-use gate_log::GateLog;
 use std::alloc::Global;
 
 /// The logs of both areas.
 #[derive(Drop)]
 pub(crate) struct Logs {
-    pub(crate) journal: GateLog,
-    pub(crate) vault: GateLog,
+    pub(crate) journal: ReadLog,
+    pub(crate) vault: ReadLog,
 }
 
 /// Reads the journal into a fold of the blank history, and then the vault against it.
@@ -47,13 +47,15 @@ pub(crate) fn read_areas<G: GraphStore, D: Disk>(
 
     ensures rules { IfOk result (λ logs. fold.new.rules ≡ fold.old.rules) }
     ensures legal { IfOk result (λ logs. Legal fold.new.rules fold.new.history) }
-    ensures journal { IfOk result (λ logs. logs.journal.area ≡ JournalArea) }
-    ensures sizes { IfOk result (λ logs. logs.journal.sizes ≡ journal_sizes (start fold.new.rules) fold.new.history) }
-    ensures vault { IfOk result (λ logs. logs.vault.area ≡ VaultArea) }
-    ensures items { IfOk result (λ logs. HasItems (state_of fold.new).items logs.vault.sizes) }
+    ensures journal { IfOk result (λ logs. logs.journal.log.area ≡ JournalArea) }
+    ensures sizes { IfOk result (λ logs. logs.journal.log.sizes ≡ journal_sizes (start fold.new.rules) fold.new.history) }
+    ensures vault { IfOk result (λ logs. logs.vault.log.area ≡ VaultArea) }
+    ensures items { IfOk result (λ logs. HasItems (state_of fold.new).items logs.vault.log.sizes) }
     ensures only { IfOk result (λ logs. Plain (D.told disk.old) (D.honest disk.old) → Only (D.seen disk.new) (D.may_leave disk.new)) }
     ensures standing { IfOk result (λ logs. Plain (D.told disk.old) (D.honest disk.old) → Standing fold.new.rules fold.new.history (D.seen disk.new)) }
-    ensures sized { IfOk result (λ logs. Plain (D.told disk.old) (D.honest disk.old) → map size_of (vault_of (D.seen disk.new)) ≡ logs.vault.sizes) }
+    ensures sized { IfOk result (λ logs. Plain (D.told disk.old) (D.honest disk.old) → map size_of (vault_of (D.seen disk.new)) ≡ logs.vault.log.sizes) }
+    ensures journal_noted { IfOk result (λ logs. Plain (D.told disk.old) (D.honest disk.old) → AreNoted JournalArea (D.seen disk.new) logs.journal.notes.items) }
+    ensures vault_noted { IfOk result (λ logs. Plain (D.told disk.old) (D.honest disk.old) → AreNoted VaultArea (D.seen disk.new) logs.vault.notes.items) }
     ensures found { IfOk result (λ logs. Plain (D.told disk.old) (D.honest disk.old) → StandsNow fold.new.rules fold.new.history (D.seen disk.old)) }
     ensures journal_reads { IfOk result (λ logs. Plain (D.told disk.old) (D.honest disk.old) → ReadsJournal fold.new.rules fold.new.history (D.seen disk.old).journal) }
     ensures vault_reads { IfOk result (λ logs. Plain (D.told disk.old) (D.honest disk.old) → ReadsVault (state_of fold.new).items (D.seen disk.old).vault) }

@@ -53,3 +53,10 @@ pub(crate) fn start_area<D: Disk>(
         Err(LogFault::OutOfMemory) => Err(OpenFault::OutOfMemory),
     }
 }
+
+/// A log that was read, and of which of its records it is noted that their payloads are zeros.
+#[derive(Drop)]
+pub(crate) struct ReadLog {
+    pub(crate) log: GateLog,
+    pub(crate) notes: Vec<bool>,
+}

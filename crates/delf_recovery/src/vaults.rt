@@ -12,15 +12,16 @@ ghost use Rattle.ledger.specs.Ledgers.{state_of};
 ghost use Rattle.job_table.specs.Table.{item_at};
 ghost use Rattle.store_laws.specs.Stores.{StandBut, vault_mark};
 ghost use Rattle.entry_codec.specs.EntryHead.{AreEntries};
+ghost use Rattle.delf_recovery.specs.Mending.{AreNoted};
 ghost use Rattle.delf_recovery.specs.Reading.{CountsRead, ShowsFaulty, ReadsVault, HasItems, WhyFaulty};
 
+use crate::blank::no_notes;
 use crate::fault::OpenFault;
 use crate::items::read_items;
-use crate::starting::{VAULT_MARK, start_area};
+use crate::starting::{ReadLog, VAULT_MARK, start_area};
 use delf_book::Fold;
 use delf_disk::{Area, Disk};
 use delf_model::GraphStore;
-use gate_log::GateLog;
 use std::alloc::Global;
 
 /// The number of the first gate that is faulty, where `read` records from the first on are those of items, and there is one
@@ -55,17 +56,18 @@ pub(crate) fn read_vault<G: GraphStore, D: Disk>(
     alloc: Global,
     fold: &Fold<G>,
     disk: &mut D,
-) -> Result<GateLog, OpenFault>
+) -> Result<ReadLog, OpenFault>
     requires entries { AreEntries fold.now.history }
     requires only { Plain (D.told disk.old) (D.honest disk.old) → Only (D.seen disk.old) (D.may_leave disk.old) }
 
-    ensures area { IfOk result (λ log. log.area ≡ VaultArea) }
-    ensures items { IfOk result (λ log. HasItems (state_of fold.now).items log.sizes) }
-    ensures reads { IfOk result (λ log. Plain (D.told disk.old) (D.honest disk.old)
+    ensures area { IfOk result (λ read. read.log.area ≡ VaultArea) }
+    ensures items { IfOk result (λ read. HasItems (state_of fold.now).items read.log.sizes) }
+    ensures reads { IfOk result (λ read. Plain (D.told disk.old) (D.honest disk.old)
         → ReadsVault (state_of fold.now).items (D.seen disk.old).vault) }
-    ensures starts { IfOk result (λ log. Plain (D.told disk.old) (D.honest disk.old)
-        → Starts VaultArea vault_mark log.sizes (D.seen disk.old) (D.seen disk.new)) }
-    ensures only { IfOk result (λ log. Plain (D.told disk.old) (D.honest disk.old) → Only (D.seen disk.new) (D.may_leave disk.new)) }
+    ensures starts { IfOk result (λ read. Plain (D.told disk.old) (D.honest disk.old)
+        → Starts VaultArea vault_mark read.log.sizes (D.seen disk.old) (D.seen disk.new)) }
+    ensures only { IfOk result (λ read. Plain (D.told disk.old) (D.honest disk.old) → Only (D.seen disk.new) (D.may_leave disk.new)) }
+    ensures noted { IfOk result (λ read. Plain (D.told disk.old) (D.honest disk.old) → AreNoted VaultArea (D.seen disk.new) read.notes.items) }
     ensures bad { IfErr result (λ fault. Plain (D.told disk.old) (D.honest disk.old)
         → ShowsFaulty (state_of fold.now).items (D.seen disk.old).vault fault) }
 
@@ -77,7 +79,8 @@ pub(crate) fn read_vault<G: GraphStore, D: Disk>(
     ensures cause { CountsRead (D.faults disk.old) (D.faults disk.new) result }
 {
     let front = start_area(alloc, disk, Area::Vault, VAULT_MARK)?;
-    let read = read_items(fold, &front.log, disk)?;
+    let mut notes = no_notes(alloc, front.log.count())?;
+    let read = read_items(fold, &front.log, front.whole, &mut notes, disk)?;
     let has_item = has_item(fold, read);
     let count = front.log.count();
     if let Some(i) = faulty_gate(has_item, read, count, front.whole) {
@@ -86,5 +89,8 @@ pub(crate) fn read_vault<G: GraphStore, D: Disk>(
             at: front.log.gate(i),
         });
     }
-    Ok(front.log)
+    Ok(ReadLog {
+        log: front.log,
+        notes,
+    })
 }

@@ -6,7 +6,7 @@ use Rattle.delf_model.specs.declared.call.Refusal.{Refusal}
 use Rattle.delf_model.specs.declared.call.Refusal.TheVariants as refusal
 use Rattle.delf_model.specs.declared.entry.Entry.{Entry}
 use Rattle.delf_model.specs.RuleSet.{RuleSet}
-use Rattle.delf_book.specs.Books.{HasNumbers}
+use Rattle.delf_book.specs.Books.{HasNumbers, given_by}
 use Rattle.delf_book.specs.declared.answers.Receipt.{Receipt}
 use Rattle.seat_lock.specs.declared.view.View.{View}
 use Rattle.seat_lock.specs.Views.{made_by, moment, took_turn}
@@ -16,7 +16,8 @@ use Rattle.delf_service.specs.declared.standing.Key.{Key}
 use Rattle.delf_service.specs.declared.standing.Standing.{Standing}
 use Rattle.delf_service.specs.Calls.{AnswersIn, AcceptedIn, CallsIn, Submitted, own_entries, added_by, entry_in}
 use Rattle.delf_service.specs.Follows.{Follows, IsMoment}
-use Rattle.delf_service.specs.Standings.{seat_of}
+use Rattle.delf_service.specs.Standings.{payloads_of, seat_of}
+use Rattle.delf_service.proofs.Seeing.{had_turn}
 use Rattle.delf_service.proofs.Entries.{push_other, push_own, get_last, entry_follows, falls_follows, same_follows, falls_history}
 
 -- a fact of two values at two that are the same
@@ -28,7 +29,7 @@ same_made k x y same = ap (λ (z : Standing). made_by seat_of k z.history) same
 
 module _ (x y : Standing) (now seat : ℕ) (call : Call) where
   pub answers_follow : IsMoment x.key now → (reply : Result Receipt Refusal) → AnswersIn x y now seat call reply → Follows y x
-  answers_follow is (Ok receipt) h = subst (λ (z : Standing). Follows z x) (sym h.left) (entry_follows x now h.what is h.up)
+  answers_follow is (Ok receipt) h = subst (λ (z : Standing). Follows z x) (sym h.left) (entry_follows x now h.what (given_by call) (payloads_of y) is h.up h.payloads)
   answers_follow is (Err (refusal.Down len)) h = same_follows x y h.same
   answers_follow is (Err refusal.OutOfMemory) h = same_follows x y h.1
   answers_follow is (Err (refusal.DiskFault len)) h = falls_follows x y h.falls
@@ -94,10 +95,10 @@ module _ {T : Type 0} (st : T → Standing) (now n : ℕ) (call : Call) (r : Ans
   )
 
   pub call_seen : (v w : View Standing Entry) (i j : ℕ) → IsNext st (λ s. s.history) seat_of Follows v x → n ≡ v.number
-      → w ≡ took_turn v (moment i (st x)) (moment j (st y)) (made_by seat_of v.number (st y).history) → Submitted v.seen.state w.seen.state now v.number call r
+      → w ≡ took_turn v (moment i (st x)) (moment j (st y)) (made_by seat_of v.number (st y).history) → Submitted v w now call r
   call_seen v w i j next same took = record {
     found = st x;
-    later = next.later;
+    turn = had_turn v w (st x) (st y) i j (made_by seat_of v.number (st y).history) next.later took;
     calls = moved_to (sym (ap (λ (z : View Standing Entry). z.seen.state) took)) (subst (λ (k : ℕ). CallsIn (st x) (st y) now k call r) same did);
   } where
     moved_to : {s t : Standing} → s ≡ t → CallsIn (st x) s now v.number call r → CallsIn (st x) t now v.number call r

@@ -1,6 +1,7 @@
 -- Rows that are opened, run and joined, and the steps behind them.
 use Rattle.std.proofs.Common.{◌≡◌, ℕ, zero, suc, ◌+◌, ◌-◌, ◌*◌, ◌<◌, ◌≤◌, ◌⊎◌, Bool, true, false, List, [], ◌∷◌, ◌++◌, length, map, take, drop, Option, Some, None, refl, sym, ap, ◌∙◌, subst, arith, ⊎_elim}
 use Rattle.std.specs.Prelude.{slice_get, option_map, slice_index_or}
+use Rattle.std.specs.List.{Contains}
 use Rattle.std.proofs.lemmas.Bool.{cases_lt}
 use Rattle.std.proofs.Math.Seq.{take-append_seam}
 use Rattle.std.proofs.lemmas.List.{length-map, length-take-le}
@@ -15,16 +16,17 @@ use Rattle.delf_service.specs.declared.replies.LaneOut.{LaneOut}
 use Rattle.delf_service.specs.declared.replies.LaneReply.{LaneReply}
 use Rattle.delf_service.specs.declared.standing.Key.{Key}
 use Rattle.delf_service.specs.declared.standing.Standing.{Standing}
-use Rattle.delf_service.specs.Blocks.{root_of, lane_seat, Rests, IsBehind, HasLanes, IsBlock}
+use Rattle.delf_service.specs.Blocks.{root_of, lane_seat, Rests, IsBehind, HasLanes, LaneToldAt, LanesTold, AreToldLanes, IsBlock}
 use Rattle.delf_service.specs.Follows.{Follows, IsMoment}
 use Rattle.delf_service.specs.FollowLaws.{Follows-itself, Follows-chain}
 use Rattle.delf_service.specs.Lanes.{HasCommand, LaneTold, Ended}
 use Rattle.delf_service.specs.Openings.{HasRoom, HasRooms, has_next, OpenedAt, RanLanes}
 use Rattle.delf_service.specs.Rows.{commands_in, commands_at, IsReady, IsRun, IsRowRun}
-use Rattle.delf_service.specs.Seats.{Starts, Closed}
-use Rattle.delf_service.specs.Standings.{seat_of, laneless}
+use Rattle.delf_service.specs.Seats.{AreMoments, Starts, Closed}
+use Rattle.delf_service.specs.Standings.{IsCaused, seat_of, laneless, with_lanes}
+use Rattle.delf_service.proofs.Payloads.{nowhere}
 use Rattle.delf_service.proofs.Joining.{map-push}
-use Rattle.delf_service.proofs.Lanes.{told_later, told_nothing}
+use Rattle.delf_service.proofs.Lanes.{told_later, told_none, told_nothing}
 use Rattle.delf_service.proofs.Numbers.{fresh_from}
 use Rattle.delf_service.proofs.Places.{push_cases}
 
@@ -116,6 +118,10 @@ some_at (x ∷ xs) (suc k) less = some_at xs k (omega (arith, less))
 commands_past : (lanes : List Lane) (k : ℕ) → length lanes ≤ k → commands_at lanes k ≡ []
 commands_past lanes k le = ap commands_in (slice_get_past lanes k le)
 
+-- no moment at all
+no_moments : (last : Standing) → AreMoments [] last
+no_moments last = record { rising = λ a b there. nowhere a there; last = λ a there. nowhere a there }
+
 -- the seat of a lane, as it is opened
 module _ (first : Standing) where
   abbrev new_seat : ℕ → SeatView
@@ -182,15 +188,15 @@ module _ (first : Standing) where
       root_is : w ≡ has_next (rooted (root_of first) first) many
       root_is = root ∙ ap (λ (z : SeatView). has_next z many) starts.root_is
 
-      told_at : (k : ℕ) (r : R) → slice_get rows k ≡ Some r → LaneTold last now (lane_seat first k) (made_by seat_of (lane_seat first k) last.history) (commands_at lanes k) (replies r)
+      told_at : (k : ℕ) (r : R) → slice_get rows k ≡ Some r → LaneTold closed.moments last now (lane_seat first k) (made_by seat_of (lane_seat first k) last.history) (commands_at lanes k) (replies r)
       told_at k r at =
           let run = (ran k r at).1 in
           let s = seat r in
           let there : slice_get seats k ≡ Some s = ap (λ (l : List SeatView). slice_get l k) seats_are ∙ (slice_get-map seat rows k ∙ ap (λ (o : Option R). option_map seat o) at) in
           let same : s.number ≡ lane_seat first k = run.same.0 in
           let made : s.made ≡ made_by seat_of (lane_seat first k) last.history = sym (subst (λ (n : ℕ). made_by seat_of n last.history ≡ s.made) same (closed.made k s there)) in
-          subst (λ (es : List Entry). LaneTold last now (lane_seat first k) es (commands_at lanes k) (replies r)) made
-          (told_later now (lane_seat first k) (commands_at lanes k) s.seen.state last s.made (replies r) (closed.later k s there) run.told)
+          subst (λ (es : List Entry). LaneTold closed.moments last now (lane_seat first k) es (commands_at lanes k) (replies r)) made
+          (told_later now (lane_seat first k) (commands_at lanes k) s.remembers closed.moments (closed.kept k s there) s.seen.state last s.made (replies r) (closed.later k s there) run.told)
 
       -- a worker's seat made no entry
       made_none : (n : ℕ) → lane_seat first (length lanes) ≤ n → n < lane_seat first many → made_by seat_of n last.history ≡ []
@@ -200,7 +206,7 @@ module _ (first : Standing) where
           let row = some_at rows k (omega (arith, above, below, count)) in
           let none = commands_past lanes k (omega (arith, above)) in
           subst (λ (m : ℕ). made_by seat_of m last.history ≡ []) at
-          (told_nothing last now (lane_seat first k) (made_by seat_of (lane_seat first k) last.history) (commands_at lanes k) (replies row.0) none (told_at k row.0 row.1))
+          (told_nothing closed.moments last now (lane_seat first k) (made_by seat_of (lane_seat first k) last.history) (commands_at lanes k) (replies row.0) none (told_at k row.0 row.1))
 
       others : (n : ℕ) → (n ≤ root_of first) ⊎ (lane_seat first (length lanes) ≤ n) → made_by seat_of n last.history ≡ made_by seat_of n first.history
       others n where_is = ⊎_elim
@@ -220,22 +226,50 @@ module _ (first : Standing) where
       in_front : (k : ℕ) (out : LaneOut) → slice_get fronts k ≡ Some out → slice_get outs k ≡ Some out
       in_front k out at = get_taken (length lanes) outs k out (ap (λ (l : List LaneOut). slice_get l k) (sym front) ∙ at)
 
-      pub ran_all : (fed : Bool) → (fed ≡ true → (k : ℕ) (r : R) → slice_get rows k ≡ Some r → starved r ≡ false) → RanLanes first last now lanes fronts fed
-      ran_all fed each = record {
+      fronts_count : length fronts ≡ length lanes
+      fronts_count =
+          let a = length-map outs (λ out. out.replies) in
+          let b = length-map rows replies in
+          let c = ap (λ (l : List (List LaneReply)). length l) outs_are in
+          ap (λ (l : List LaneOut). length l) front ∙ length-take-le (length lanes) outs (omega (arith, a, b, c, count, few))
+
+      -- where a seat was joined, the turns are those that the root remembers then
+      turns_all : first.lanes ≡ length lanes → 0 < many → LanesTold first last now lanes fronts
+      turns_all counted some =
+          let long = length-map rows seat in
+          let size : length seats ≡ many = ap (λ (l : List SeatView). length l) seats_are ∙ (long ∙ count) in
+          let ordered = closed.ordered (omega (arith, size, some)) in
+          record {
+            turns = closed.moments;
+            moments = ordered;
+            behind = λ a there. subst (λ (n : ℕ). Follows a.state (with_lanes first n)) counted (ordered.rising (moment 0 first) a begun there (omega arith));
+            count = fronts_count;
+            told = λ k out at.
+                let row = other_at (λ (o : LaneOut). o.replies) replies outs rows k out outs_are (in_front k out at) in
+                subst (λ (rs : List LaneReply). LaneToldAt first closed.moments last now lanes k rs) row.2 (told_at k row.0 row.1);
+          } where
+            begun : Contains closed.moments (moment 0 first)
+            begun = closed.root_kept (moment 0 first) (subst (λ (z : SeatView). Contains z.remembers (moment 0 first)) (sym root_is) (0, omega arith, refl))
+
+      turns_none : many ≤ 0 → LanesTold first last now lanes fronts
+      turns_none none = record {
+        turns = [];
+        moments = no_moments last;
+        behind = λ a there. nowhere a there;
+        count = fronts_count;
+        told = λ k out at. let within = slice_get_within fronts k out at in let size = fronts_count in absurd (omega (arith, within, size, few, none));
+      }
+
+      pub ran_all : first.lanes ≡ length lanes → (fed : Bool) → (fed ≡ true → (k : ℕ) (r : R) → slice_get rows k ≡ Some r → starved r ≡ false) → RanLanes first last now lanes fronts fed
+      ran_all counted fed each = record {
         has = record {
           later = subst (λ (z : SeatView). Follows last z.seen.state) root_is closed.first;
           legal = closed.legal;
+          cause = closed.cause;
           fresh = starts.fresh;
           others = others;
         };
-        count =
-            let a = length-map outs (λ out. out.replies) in
-            let b = length-map rows replies in
-            let c = ap (λ (l : List (List LaneReply)). length l) outs_are in
-            ap (λ (l : List LaneOut). length l) front ∙ length-take-le (length lanes) outs (omega (arith, a, b, c, count, few));
-        told = λ k out at.
-            let row = other_at (λ (o : LaneOut). o.replies) replies outs rows k out outs_are (in_front k out at) in
-            subst (λ (rs : List LaneReply). LaneTold last now (lane_seat first k) (made_by seat_of (lane_seat first k) last.history) (commands_at lanes k) rs) row.2 (told_at k row.0 row.1);
+        told = ⊎_elim (λ some. turns_all counted some) (λ none. turns_none none) (cases_lt 0 many);
         end = λ is k out at.
             let row = other_at (λ (o : LaneOut). o.replies) replies outs rows k out outs_are (in_front k out at) in
             subst (λ (rs : List LaneReply). Ended (commands_at lanes k) rs) row.2 ((ran k row.0 row.1).1.end (each is k row.0 row.1));
@@ -266,13 +300,13 @@ ran_laneless first last now lanes outs fed none h =
     let later = h.has.later in
     record {
       has = record {
-        later = record { history = later.history; dated = later.dated; faults = later.faults; cause = later.cause; down = later.down; lanes = omega (arith, none); key = later.key };
+        later = record { history = later.history; dated = later.dated; payloads = later.payloads; faults = later.faults; cause = later.cause; down = later.down; lanes = omega (arith, none); key = later.key };
         legal = h.has.legal;
+        cause = h.has.cause;
         fresh = h.has.fresh;
         others = h.has.others;
       };
-      count = h.count;
-      told = h.told;
+      told = record { turns = h.told.turns; moments = h.told.moments; behind = h.told.behind; count = h.told.count; told = h.told.told };
       end = h.end;
     }
 
@@ -282,27 +316,52 @@ module _ (first last final : Standing) (behind : IsBehind last final) where
   has_behind count h = record {
     later = Follows-chain final last first behind.later h.later;
     legal = behind.legal;
+    cause = behind.cause;
     fresh = h.fresh;
     others = λ n where_is. behind.only n ∙ h.others n where_is;
   }
 
-  pub block_behind : (now : ℕ) (lanes : List Lane) (outs : List LaneOut) (fed : Bool) → RanLanes first last now lanes outs fed → fed ≡ true → Rests final now → IsBlock first final now lanes outs
-  block_behind now lanes outs fed h is rests = record {
+  pub told_behind : (now : ℕ) (lanes : List Lane) (outs : List LaneOut) → LanesTold first last now lanes outs → LanesTold first final now lanes outs
+  told_behind now lanes outs h = record {
+    turns = h.turns;
+    moments = record { rising = h.moments.rising; last = λ a there. Follows-chain final last a.state behind.later (h.moments.last a there) };
+    behind = h.behind;
     count = h.count;
-    each = λ k out at. record {
-      told =
-          let told = told_later now (lane_seat first k) (commands_at lanes k) last final (made_by seat_of (lane_seat first k) last.history) out.replies behind.later (h.told k out at) in
-          subst (λ (es : List Entry). LaneTold final now (lane_seat first k) es (commands_at lanes k) out.replies) (sym (behind.only (lane_seat first k))) told;
-      end = h.end is k out at;
-    };
-    rests = rests;
+    told = λ k out at.
+        let told = told_later now (lane_seat first k) (commands_at lanes k) h.turns h.turns (λ m there. there) last final (made_by seat_of (lane_seat first k) last.history) out.replies behind.later
+        (h.told k out at) in
+        subst (λ (es : List Entry). LaneTold h.turns final now (lane_seat first k) es (commands_at lanes k) out.replies) (sym (behind.only (lane_seat first k))) told;
   }
 
+  pub block_behind : (now : ℕ) (lanes : List Lane) (outs : List LaneOut) (fed : Bool) → RanLanes first last now lanes outs fed → fed ≡ true → Rests final now → IsBlock first final now lanes outs
+  block_behind now lanes outs fed h is rests = record { told = told_behind now lanes outs h.told; end = λ k out at. h.end is k out at; rests = rests }
+
 -- nothing was done
-pub has_none : (first : Standing) (count : ℕ) → Legal first.key.rules first.history → HasLanes first first count
-has_none first count legal = record {
+pub has_none : (first : Standing) (count : ℕ) → Legal first.key.rules first.history → IsCaused first → HasLanes first first count
+has_none first count legal cause = record {
   later = Follows-itself first;
   legal = legal;
+  cause = cause;
   fresh = fresh_from first.key.rules first.history;
   others = λ n where_is. refl;
 }
+
+-- no lane was answered anything
+abbrev silent : Lane → LaneOut
+silent lane = record { replies = [] }
+
+pub told_silent : (first : Standing) (now : ℕ) (lanes : List Lane) → AreToldLanes first first now lanes
+told_silent first now lanes = (
+  map silent lanes,
+  record {
+    turns = [];
+    moments = no_moments first;
+    behind = λ a there. nowhere a there;
+    count = length-map lanes silent;
+    told = λ k out at.
+        let lane = from_map silent (map silent lanes) lanes k out refl at in
+        subst (λ (o : LaneOut). LaneToldAt first [] first now lanes k o.replies) lane.2
+        (told_none now (lane_seat first k) (commands_at lanes k) [] first (made_by seat_of (lane_seat first k) first.history)
+        (fresh_from first.key.rules first.history (lane_seat first k) (omega arith)));
+  },
+)

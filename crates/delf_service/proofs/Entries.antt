@@ -6,13 +6,16 @@ use Rattle.std.proofs.lemmas.List.Elements.{filter-append}
 use Rattle.std.proofs.lemmas.Option.{slice_get_within}
 use Rattle.delf_model.specs.declared.entry.Entry.{Entry}
 use Rattle.delf_model.specs.declared.entry.What.{What}
+use Rattle.delf_model.specs.Payloads.{Payloads, payloads_after}
+use Rattle.store_laws.specs.Stores.{digest}
 use Rattle.seat_lock.specs.Lists.{StartsWith-itself}
 use Rattle.seat_lock.specs.Views.{made_by, is_maker}
 use Rattle.delf_service.specs.declared.standing.Standing.{Standing}
 use Rattle.delf_service.specs.Calls.{entry_in, with_entry, Falls}
-use Rattle.delf_service.specs.Follows.{FitsFrom, IsDated, Follows, IsMoment}
-use Rattle.delf_service.specs.FollowLaws.{Follows-itself, fits_itself}
-use Rattle.delf_service.specs.Standings.{seat_of, laneless}
+use Rattle.delf_service.specs.Follows.{FitsFrom, IsDated, KeepsPayloads, Follows, IsMoment}
+use Rattle.delf_service.specs.FollowLaws.{Follows-itself, fits_itself, keeps_itself}
+use Rattle.delf_service.specs.Standings.{IsPlain, payloads_of, state_at, seat_of, laneless, with_lanes}
+use Rattle.delf_service.proofs.Payloads.{keeps_push}
 
 made_push : (k : ℕ) (h : List Entry) (e : Entry) → made_by seat_of k (h ++ e ∷ []) ≡ made_by seat_of k h ++ cond (is_maker k (seat_of e)) (e ∷ []) []
 made_push k h e = filter-append (λ (x : Entry). is_maker k (seat_of x)) h (e ∷ [])
@@ -48,11 +51,13 @@ module _ {A : Type 0} where
       subst (λ (l : List A). P l y) (sym front) (subst (λ (z : A). P xs z) same holds)
 
 module _ (x : Standing) where
-  pub entry_follows : (now : ℕ) (what : What) → IsMoment x.key now → x.down ≡ false → Follows (with_entry x (entry_in x now what)) x
-  entry_follows now what is up = record {
+  pub entry_follows : (now : ℕ) (what : What) (given : List ℕ) (e : Payloads) → IsMoment x.key now → x.down ≡ false
+      → (IsPlain x.key → e ≡ payloads_after digest (state_at x) (entry_in x now what) given (payloads_of x)) → Follows (with_entry x (entry_in x now what) e) x
+  entry_follows now what given e is up grown = record {
     history = (entry_in x now what ∷ [], refl);
     dated = λ m same. fits_push (IsDated x.key.rules m) x.history (entry_in x now what)
         (subst (λ (n : ℕ). IsDated x.key.rules n x.history (entry_in x now what)) (sym (is m same)) refl);
+    payloads = λ plain. subst (λ (p : Payloads). KeepsPayloads x.history p (payloads_of x)) (sym (grown plain)) (keeps_push x (entry_in x now what) given);
     faults = omega arith;
     cause = λ down. inl down;
     down = λ down. absurd (cc (up, down));
@@ -64,6 +69,7 @@ module _ (x : Standing) where
   falls_follows y falls = subst (λ (z : Standing). Follows z x) (sym falls.left) (record {
     history = StartsWith-itself x.history;
     dated = λ m same. fits_itself (IsDated x.key.rules m) x.history;
+    payloads = λ plain. keeps_itself x.history (payloads_of x);
     faults = falls.later;
     cause = λ down. inr falls.rose;
     down = λ down. absurd (cc (falls.up, down));
@@ -78,10 +84,11 @@ module _ (x : Standing) where
   falls_history y falls = ap (λ (z : Standing). z.history) falls.left
 
   -- fewer lanes are left
-  pub fewer_follows : (n : ℕ) → n ≤ x.lanes → Follows (record x { lanes = n }) x
+  pub fewer_follows : (n : ℕ) → n ≤ x.lanes → Follows (with_lanes x n) x
   fewer_follows n le = record {
     history = StartsWith-itself x.history;
     dated = λ m same. fits_itself (IsDated x.key.rules m) x.history;
+    payloads = λ plain. keeps_itself x.history (payloads_of x);
     faults = omega arith;
     cause = λ down. inl down;
     down = λ down. (down, refl);
@@ -91,7 +98,3 @@ module _ (x : Standing) where
 
   pub laneless_follows : Follows (laneless x) x
   laneless_follows = fewer_follows 0 (omega arith)
-
--- what follows, where no lane is left any more on both sides
-pub laneless_both : (s t : Standing) → Follows s t → Follows (laneless s) (laneless t)
-laneless_both s t h = record { history = h.history; dated = h.dated; faults = h.faults; cause = h.cause; down = h.down; lanes = omega arith; key = h.key }

@@ -13,7 +13,9 @@ use Rattle.delf_service.specs.declared.standing.Standing.{Standing}
 use Rattle.delf_service.specs.Follows.{Follows}
 use Rattle.delf_service.specs.FollowLaws.{Follows-itself, Follows-chain}
 use Rattle.delf_service.specs.Seats.{pair_of, JoinedTo, Closed}
-use Rattle.delf_service.specs.Standings.{seat_of, laneless}
+use Rattle.delf_service.specs.Standings.{IsCaused, seat_of, laneless}
+use Rattle.delf_service.specs.Turns.{Keeps}
+use Rattle.delf_service.proofs.Seeing.{keeps_itself, keeps_chain}
 use Rattle.delf_service.proofs.Entries.{laneless_follows}
 use Rattle.delf_service.proofs.Places.{push_cases}
 
@@ -32,7 +34,17 @@ join_none v = record {
   joined_is = sym (append-nil v.joined);
   first = Follows-itself v.seen.state;
   later = λ k w at. absurd (cc at);
+  keeps = keeps_itself v;
+  takes = λ k w at. absurd (cc at);
+  ordered = λ some. absurd (omega (arith, some));
 }
+
+-- a joined root remembers what both remember
+joined_keeps : (v w : SeatView) → Keeps v (joined_root v w)
+joined_keeps v w m there = Contains-append_left (v.remembers ++ w.remembers) (v.seen ∷ w.seen ∷ []) m (Contains-append_left v.remembers w.remembers m there)
+
+joined_takes : (v w : SeatView) → Keeps w (joined_root v w)
+joined_takes v w m there = Contains-append_left (v.remembers ++ w.remembers) (v.seen ∷ w.seen ∷ []) m (Contains-append_right v.remembers w.remembers m there)
 
 -- what a joined root has seen follows what either has seen
 join_sees : (v w : SeatView) → IsOrdered Follows (joined_root v w) → Follows (joined_root v w).seen.state v.seen.state × Follows (joined_root v w).seen.state w.seen.state
@@ -54,6 +66,12 @@ joined_more v0 v w ws h o =
           (λ before. Follows-chain (joined_root v w).seen.state v.seen.state u.seen.state sees.0 (h.later k u before.1))
           (λ here. subst (λ (z : SeatView). Follows (joined_root v w).seen.state z.seen.state) here.1 sees.1)
           (push_cases ws w u k at);
+      keeps = keeps_chain v0 v (joined_root v w) h.keeps (joined_keeps v w);
+      takes = λ k u at. ⊎_elim
+          (λ before. keeps_chain u v (joined_root v w) (h.takes k u before.1) (joined_keeps v w))
+          (λ here. subst (λ (z : SeatView). Keeps z (joined_root v w)) here.1 (joined_takes v w))
+          (push_cases ws w u k at);
+      ordered = λ some. o;
     }
 
 -- one seat more
@@ -98,9 +116,14 @@ paired (x ∷ ws) (suc k) w at = let h = paired ws k w at in Contains-append_rig
 
 module _ {T : Type 0} (st : T → Standing) (start : Standing) where
   pub closed_all : (v0 v : SeatView) (ws : List SeatView) (x : T) → JoinedTo v0 v ws → Closes st (λ s. s.history) seat_of Follows start v x
-      → Legal (st x).key.rules (st x).history → Closed start v0 ws (st x)
-  closed_all v0 v ws x h c legal = record {
+      → Legal (st x).key.rules (st x).history → IsCaused (st x) → Closed start v0 ws (st x)
+  closed_all v0 v ws x h c legal cause = record {
     legal = legal;
+    cause = cause;
+    moments = v.remembers;
+    root_kept = h.keeps;
+    kept = h.takes;
+    ordered = λ some. let o = h.ordered some in record { rising = o.rising; last = λ a there. Follows-chain (st x) v.seen.state a.state c.later (o.highest a there) };
     first = Follows-chain (st x) v.seen.state v0.seen.state c.later h.first;
     later = λ k w at. Follows-chain (st x) v.seen.state w.seen.state c.later (h.later k w at);
     own = subst (λ (n : ℕ). made_by seat_of n (st x).history ≡ v.made) h.number c.own ∙ h.made;
@@ -116,6 +139,11 @@ module _ {T : Type 0} (st : T → Standing) (start : Standing) where
 pub closed_laneless : (start : Standing) (v : SeatView) (ws : List SeatView) (end : Standing) → Closed start v ws end → Closed start v ws (laneless end)
 closed_laneless start v ws end h = record {
   legal = h.legal;
+  cause = h.cause;
+  moments = h.moments;
+  root_kept = h.root_kept;
+  kept = h.kept;
+  ordered = λ some. let o = h.ordered some in record { rising = o.rising; last = λ a there. Follows-chain (laneless end) end a.state (laneless_follows end) (o.last a there) };
   first = Follows-chain (laneless end) end v.seen.state (laneless_follows end) h.first;
   later = λ k w at. Follows-chain (laneless end) end w.seen.state (laneless_follows end) (h.later k w at);
   own = h.own;

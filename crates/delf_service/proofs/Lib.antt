@@ -6,7 +6,9 @@ pub mod Entries
 pub mod Joining
 pub mod Lanes
 pub mod Numbers
+pub mod Payloads
 pub mod Places
+pub mod Seeing
 pub mod Tags
 pub mod Tellings
 pub mod Turns

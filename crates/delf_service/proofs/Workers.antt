@@ -1,5 +1,5 @@
 -- What the turns of a worker and the last turn of a lane do to the standing.
-use Rattle.std.proofs.Common.{◌≡◌, ◌<◌, ℕ, ◌+◌, Bool, true, false, Result, sym, ap, ◌∙◌, subst, arith, add-one, inl, inr}
+use Rattle.std.proofs.Common.{◌≡◌, ◌<◌, ℕ, suc, ◌+◌, Bool, true, false, Result, sym, ap, ◌∙◌, subst, arith, add-one, inl, inr}
 use Rattle.std.specs.Prelude.{MatchBool}
 use Rattle.delf_book.specs.declared.answers.StepFault.{StepFault}
 use Rattle.seat_lock.specs.Promises.{OnlyMade}
@@ -9,19 +9,31 @@ use Rattle.delf_service.specs.declared.standing.Standing.{Standing}
 use Rattle.delf_service.specs.Follows.{Follows, IsMoment}
 use Rattle.delf_service.specs.FollowLaws.{Follows-chain}
 use Rattle.delf_service.specs.Standings.{seat_of}
-use Rattle.delf_service.specs.Workers.{one_left, LeavesOne, GoesOn, Ends, Turn, HasTurned, WorkerDone}
+use Rattle.delf_service.specs.Workers.{one_left, HasMade, LeavesAll, LeavesOne, GoesOn, Ends, Turn, HasTurned, WorkerDone}
+use Rattle.delf_model.specs.declared.entry.Entry.{Entry}
+use Rattle.seat_lock.specs.declared.view.View.{View}
 use Rattle.delf_service.specs.Works.{Worked}
 use Rattle.delf_service.proofs.Answering.{moved, later_moment}
 use Rattle.delf_service.proofs.Entries.{fewer_follows}
 use Rattle.delf_service.proofs.Turns.{steps_follow}
 
 -- what a seat has seen behind a turn of a worker
-pub worked_follows : (now : ℕ) (s t : Standing) (outcome : Result Turned StepFault) → IsMoment s.key now → Worked s t now outcome → Follows t s
-worked_follows now s t outcome is w = Follows-chain t w.found s (steps_follow w.found t now (later_moment w.found s now w.later is) outcome w.turns.steps) w.later
+pub worked_follows : (now : ℕ) (v w : View Standing Entry) (outcome : Result Turned StepFault) → IsMoment v.seen.state.key now → Worked v w now outcome → Follows w.seen.state v.seen.state
+worked_follows now v w outcome is h =
+    let s = v.seen.state in
+    let t = w.seen.state in
+    Follows-chain t h.found s (steps_follow h.found t now (later_moment h.found s now h.turn.later is) outcome h.turns.steps) h.turn.later
 
 -- what a turn came to
-pub turn_of : (now : ℕ) (Says : Result Turned StepFault → ℕ → Type 0) (s t : Standing) (outcome : Result Turned StepFault) (lanes : ℕ) → Worked s t now outcome → lanes ≡ t.lanes → Says outcome lanes → Turn now Says s t
-turn_of now Says s t outcome lanes worked same says = record { outcome = outcome; worked = worked; says = subst (λ (k : ℕ). Says outcome k) same says }
+pub turn_of : (now : ℕ) (Says : Result Turned StepFault → ℕ → Type 0) (v w : View Standing Entry) (outcome : Result Turned StepFault) (lanes : ℕ) → Worked v w now outcome → lanes ≡ w.seen.state.lanes
+    → Says outcome lanes → Turn now Says v.seen.state w.seen.state
+turn_of now Says v w outcome lanes worked same says = record {
+  outcome = outcome;
+  found = worked.found;
+  later = worked.turn.later;
+  turns = worked.turns;
+  says = subst (λ (k : ℕ). Says outcome k) same says;
+}
 
 pub goes_on : (b : Bool) (outcome : Result Turned StepFault) (lanes : ℕ) → MatchBool b (Ends outcome lanes) (GoesOn outcome lanes) → b ≡ false → GoesOn outcome lanes
 goes_on true outcome lanes h is = absurd (cc is)
@@ -34,6 +46,10 @@ ends_here false outcome lanes h is = absurd (cc is)
 -- one turn more
 pub more_turned : (now n m : ℕ) (s t u : Standing) → HasTurned now n s t → Turn now GoesOn t u → m ≡ n + 1 → HasTurned now m s u
 more_turned now n m s t u made turn is = subst (λ (k : ℕ). HasTurned now k s u) (sym (is ∙ add-one n)) (t, made, turn)
+
+-- one turn more of a lane
+pub more_made : (s t u : Standing) → (n : ℕ) × HasMade n s t → LeavesAll t u → (n : ℕ) × HasMade n s u
+more_made s t u made leaves = (suc made.0, (t, made.1, leaves))
 
 -- the turn at which a worker ended
 pub ended_at : (now turns n : ℕ) (s t u : Standing) → n < turns → HasTurned now n s t → Turn now Ends t u → WorkerDone now turns s u

@@ -7,24 +7,31 @@ use Rattle.delf_model.specs.declared.call.Refusal.TheVariants as refusal
 use Rattle.delf_model.specs.declared.entry.Entry.{Entry}
 use Rattle.delf_model.specs.declared.entry.What.{What}
 use Rattle.delf_model.specs.Legal.{Legal}
+use Rattle.delf_model.specs.Payloads.{Payloads, payloads_after}
 use Rattle.delf_model.specs.Reply.{reply}
 use Rattle.delf_model.specs.Room.{moment_of}
-use Rattle.delf_book.specs.Books.{started_by, restored_items}
+use Rattle.store_laws.specs.Stores.{digest}
+use Rattle.delf_book.specs.Books.{given_by, started_by, restored_items}
 use Rattle.delf_book.specs.declared.answers.Receipt.{Receipt}
 use Rattle.delf_service.specs.declared.answers.Answer.{Answer}
 use Rattle.delf_service.specs.declared.standing.Standing.{Standing}
-use Rattle.delf_service.specs.Follows.{Follows}
-use Rattle.delf_service.specs.Standings.{seat_of, state_at}
+use Rattle.seat_lock.specs.declared.view.View.{View}
+use Rattle.delf_service.specs.Standings.{IsCaused, IsPlain, payloads_of, seat_of, state_at}
+use Rattle.delf_service.specs.Turns.{HadTurn}
 
 -- the entry that a call or step adds where the clock says `now`
 abbrev pub entry_in : Standing → ℕ → What → Entry
 entry_in s now what = record { moment = moment_of (state_at s) now; what = what }
 
--- the history has this entry more
-abbrev pub with_entry : Standing → Entry → Standing
-with_entry s e = record s { history = s.history ++ e ∷ [] }
+-- the history has this entry more, and these are the payloads behind it
+abbrev pub with_entry : Standing → Entry → Payloads → Standing
+with_entry s e p = record s { history = s.history ++ e ∷ []; payloads = p.bytes; seals = p.seals }
 
--- a disk fault: the history stays, and the book is down
+-- the payloads are those behind an entry that was given these bytes, where the disk is plain
+abbrev pub PayloadsIn : Standing → Standing → Entry → List ℕ → Type 0
+PayloadsIn x y e given = IsPlain x.key → payloads_of y ≡ payloads_after digest (state_at x) e given (payloads_of x)
+
+-- a disk fault: history and payloads stay, and the book is down
 pub record Falls (x y : Standing) : Type 0 where
   pub up : x.down ≡ false
   pub left : y ≡ record x { faults = y.faults; down = true }
@@ -37,13 +44,15 @@ pub record IsDown (x y : Standing) (len : ℕ) : Type 0 where
   pub length_is : len ≡ length x.history
   pub same : y ≡ x
 
--- the call was accepted: its entry stands behind those that were found, and has the number of the seat
+-- the call was accepted: its entry stands behind those that were found, and has the number of the seat, and its own bytes
+-- are what it added
 pub record AcceptedIn (x y : Standing) (now seat : ℕ) (call : Call) (receipt : Receipt) : Type 0 where
   pub up : x.down ≡ false
   pub what : What
   pub is_reply : reply (state_at x) (moment_of (state_at x) now) seat call ≡ Ok what
   pub maker : seat_of (entry_in x now what) ≡ Some seat
-  pub left : y ≡ with_entry x (entry_in x now what)
+  pub left : y ≡ with_entry x (entry_in x now what) (payloads_of y)
+  pub payloads : PayloadsIn x y (entry_in x now what) (given_by call)
   pub position : receipt.position ≡ length x.history
   pub started : receipt.started ≡ started_by (state_at x) what
   pub items : receipt.items ≡ restored_items (state_at x) what
@@ -64,17 +73,19 @@ AnswersIn x y now seat call (Err (refusal.DiskFault len)) = InterruptedIn x y no
 AnswersIn x y now seat call (Err other) =
     (x.down ≡ false) × (reply (state_at x) (moment_of (state_at x) now) seat call ≡ Err other) × (y ≡ x)
 
--- a call finds a legal history, answers at its length, and does what the answer says
+-- A call finds a legal history, answers at its length, and does what the answer says. A book that it leaves down met a fault
+-- since its opening
 pub record CallsIn (x y : Standing) (now seat : ℕ) (call : Call) (a : Answer) : Type 0 where
   pub legal : Legal x.key.rules x.history
   pub at_is : a.at ≡ length x.history
   pub answers : AnswersIn x y now seat call a.reply
+  pub cause : IsCaused y
 
--- what the seat has seen before and after a call: it found a standing that follows what it had seen
-pub record Submitted (before after : Standing) (now seat : ℕ) (call : Call) (a : Answer) : Type 0 where
+-- a call of a seat: it found a standing that follows what the seat had seen
+pub record Submitted (v w : View Standing Entry) (now : ℕ) (call : Call) (a : Answer) : Type 0 where
   pub found : Standing
-  pub later : Follows found before
-  pub calls : CallsIn found after now seat call a
+  pub turn : HadTurn v w found
+  pub calls : CallsIn found w.seen.state now v.number call a
 
 -- the entries that a call adds: where it was accepted, the one at the length of its answer
 abbrev pub own_entries : Standing → Answer → Result Receipt Refusal → List Entry

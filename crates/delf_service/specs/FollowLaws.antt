@@ -1,16 +1,18 @@
 -- The three laws of what may come after a standing.
-use Rattle.std.proofs.Common.{◌≡◌, ℕ, zero, suc, ◌<◌, ◌≤◌, List, [], ◌∷◌, ◌++◌, length, take, refl, sym, ap, ◌∙◌, subst, arith, ⊎_elim, inl, inr}
+use Rattle.std.proofs.Common.{◌≡◌, ℕ, zero, suc, ◌<◌, ◌≤◌, List, [], ◌∷◌, ◌++◌, length, take, refl, sym, ap, ◌∙◌, subst, arith, length-append, ⊎_elim, inl, inr}
 use Rattle.std.specs.Prelude.{slice_get}
 use Rattle.std.proofs.lemmas.Option.{slice_get_past}
 use Rattle.std.proofs.lemmas.List.{take-append-le}
 use Rattle.std.proofs.lemmas.Bool.{cases_lt}
 use Rattle.delf_disk.specs.Causes.{Rose}
 use Rattle.delf_model.specs.declared.entry.Entry.{Entry}
+use Rattle.delf_model.specs.Payloads.{Payloads}
 use Rattle.delf_model.specs.RuleSet.{RuleSet}
 use Rattle.seat_lock.specs.Lists.{StartsWith, StartsWith-itself, StartsWith-chain}
 use Rattle.delf_service.specs.declared.standing.Key.{Key}
 use Rattle.delf_service.specs.declared.standing.Standing.{Standing}
-use Rattle.delf_service.specs.Follows.{FitsFrom, IsDated, Follows}
+use Rattle.delf_service.specs.Follows.{FitsFrom, IsDated, KeepsPayloads, Follows}
+use Rattle.delf_service.specs.Standings.{IsPlain, payloads_of}
 
 module _ {A : Type 0} where
   pub get_first : (xs ys : List A) (k : ℕ) → k < length xs → slice_get (xs ++ ys) k ≡ slice_get xs k
@@ -31,10 +33,24 @@ module _ {A : Type 0} where
       (λ more. behind k x more at)
       (cases_lt k (length ys))
 
+pub keeps_itself : (history : List Entry) (e : Payloads) → KeepsPayloads history e e
+keeps_itself history e = record { pairs = λ p less there. there; seals = StartsWith-itself e.seals }
+
+-- payloads that come after those of a longer history come after those of its beginning
+keeps_chain : (long short : List Entry) (a b c : Payloads) → StartsWith long short → KeepsPayloads long a b → KeepsPayloads short b c → KeepsPayloads short a c
+keeps_chain long short a b c starts now before = record {
+  pairs = λ p less there.
+      let l = ap (λ (es : List Entry). length es) starts.1 in
+      let m = length-append short starts.0 in
+      before.pairs p less (now.pairs p (omega (arith, l, m, less)) there);
+  seals = StartsWith-chain a.seals b.seals c.seals now.seals before.seals;
+}
+
 pub Follows-itself : (s : Standing) → Follows s s
 Follows-itself s = record {
   history = StartsWith-itself s.history;
   dated = λ now same. fits_itself (IsDated s.key.rules now) s.history;
+  payloads = λ plain. keeps_itself s.history (payloads_of s);
   faults = omega arith;
   cause = λ down. inl down;
   down = λ down. (down, refl);
@@ -54,6 +70,8 @@ Follows-chain s t u p q = record {
   dated = λ now same. fits_chain (IsDated s.key.rules now) (length u.history) s.history t.history p.history (p.dated now same)
       (subst (λ (rules : RuleSet). FitsFrom (IsDated rules now) (length u.history) t.history) (sym (ap (λ (k : Key). k.rules) p.key))
       (q.dated now (sym (ap (λ (k : Key). k.moment) p.key) ∙ same)));
+  payloads = λ plain. keeps_chain t.history u.history (payloads_of s) (payloads_of t) (payloads_of u) q.history (p.payloads plain)
+      (q.payloads (subst (λ (k : Key). IsPlain k) p.key plain));
   faults = let a = p.faults in let b = q.faults in omega (arith, a, b);
   cause = λ down. ⊎_elim
       (λ before. ⊎_elim (λ first. inl first) (λ rose. inr (rose_on u.faults t.faults s.faults p.faults rose)) (q.cause before))

@@ -8,5 +8,6 @@ pub mod Openings
 pub mod Rows
 pub mod Seats
 pub mod Standings
+pub mod Turns
 pub mod Workers
 pub mod Works

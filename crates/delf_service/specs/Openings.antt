@@ -4,14 +4,13 @@ use Rattle.delf_model.specs.declared.entry.Entry.{Entry}
 use Rattle.delf_model.specs.declared.script.LaneCommand.{LaneCommand}
 use Rattle.delf_model.specs.declared.script.Lane.{Lane}
 use Rattle.seat_lock.specs.declared.view.View.{View}
-use Rattle.seat_lock.specs.Views.{made_by, newcomer}
+use Rattle.seat_lock.specs.Views.{newcomer}
 use Rattle.delf_service.specs.declared.replies.LaneOut.{LaneOut}
 use Rattle.delf_service.specs.declared.replies.LaneReply.{LaneReply}
 use Rattle.delf_service.specs.declared.standing.Standing.{Standing}
-use Rattle.delf_service.specs.Blocks.{HasLanes, lane_seat}
-use Rattle.delf_service.specs.Lanes.{LaneTold, Ended}
+use Rattle.delf_service.specs.Blocks.{HasLanes, LanesTold}
+use Rattle.delf_service.specs.Lanes.{Ended}
 use Rattle.delf_service.specs.Rows.{commands_at}
-use Rattle.delf_service.specs.Standings.{seat_of}
 
 -- no replies, and room for one to each command
 abbrev pub HasRoom : List LaneCommand → List LaneReply → ℕ → Type 0
@@ -32,7 +31,5 @@ HasRooms {L} lanes items room lists = (k : ℕ) (l : L) → slice_get lists k �
 -- the lanes were run, and their seats are joined
 pub record RanLanes (first last : Standing) (now : ℕ) (lanes : List Lane) (outs : List LaneOut) (fed : Bool) : Type 0 where
   pub has : HasLanes first last (length lanes)
-  pub count : length outs ≡ length lanes
-  pub told : (place : ℕ) (out : LaneOut) → slice_get outs place ≡ Some out
-      → LaneTold last now (lane_seat first place) (made_by seat_of (lane_seat first place) last.history) (commands_at lanes place) out.replies
+  pub told : LanesTold first last now lanes outs
   pub end : fed ≡ true → (place : ℕ) (out : LaneOut) → slice_get outs place ≡ Some out → Ended (commands_at lanes place) out.replies

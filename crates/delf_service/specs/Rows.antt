@@ -9,7 +9,8 @@ use Rattle.delf_service.specs.declared.replies.LaneReply.{LaneReply}
 use Rattle.delf_service.specs.declared.standing.Standing.{Standing}
 use Rattle.delf_service.specs.Follows.{Follows, IsMoment}
 use Rattle.delf_service.specs.Lanes.{HasCommand, LaneTold, Ended}
-use Rattle.delf_service.specs.Workers.{LeavesOne, WorkerDone}
+use Rattle.delf_service.specs.Turns.{Keeps}
+use Rattle.delf_service.specs.Workers.{HasMade, LeavesOne, WorkerDone}
 
 abbrev pub commands_in : Option Lane → List LaneCommand
 commands_in None = []
@@ -32,11 +33,16 @@ pub record IsReady (now : ℕ) (commands : List LaneCommand) (v : View Standing 
 pub record IsRun (now : ℕ) (commands : List LaneCommand) (v w : View Standing Entry) (replies : List LaneReply) (starved : Bool) : Type 0 where
   pub same : IsSameSeat v w
   pub later : Follows w.seen.state v.seen.state
-  pub told : LaneTold w.seen.state now v.number w.made commands replies
+  pub keeps : Keeps v w
+  pub told : LaneTold w.remembers w.seen.state now v.number w.made commands replies
   pub end : starved ≡ false → Ended commands replies
 
--- what the row at this place came to: that of a lane said that it is over, and that of a worker made its turns
+-- its turns left as many lanes as they found, and behind them all it said that it is over
+abbrev pub IsOver : Standing → Standing → Type 0
+IsOver before after = (n : ℕ) × (last : Standing) × HasMade n before last × Follows last before × LeavesOne last after
+
+-- what the row at this place came to: that of a lane said once that it is over, and that of a worker made its turns
 pub record IsRowRun (now turns : ℕ) (lanes : List Lane) (place : ℕ) (v w : View Standing Entry) (replies : List LaneReply) (starved : Bool) : Type 0 where
   pub run : IsRun now (commands_at lanes place) v w replies starved
-  pub lane : place < length lanes → (last : Standing) × Follows last v.seen.state × LeavesOne last w.seen.state
+  pub lane : place < length lanes → IsOver v.seen.state w.seen.state
   pub worker : length lanes ≤ place → WorkerDone now turns v.seen.state w.seen.state

@@ -5,7 +5,7 @@ use Rattle.delf_service.specs.declared.answers.Turned.{Turned}
 use Rattle.delf_service.specs.declared.answers.Turned.TheVariants as turned
 use Rattle.delf_service.specs.declared.standing.Standing.{Standing}
 use Rattle.delf_service.specs.Follows.{Follows}
-use Rattle.delf_service.specs.Works.{Worked}
+use Rattle.delf_service.specs.Works.{TurnsIn}
 
 -- one lane less is left
 abbrev pub one_left : Standing → Standing
@@ -16,6 +16,17 @@ pub record LeavesOne (before after : Standing) : Type 0 where
   pub found : Standing
   pub later : Follows found before
   pub left : after ≡ one_left found
+
+-- a turn that leaves as many lanes as it finds
+pub record LeavesAll (before after : Standing) : Type 0 where
+  pub found : Standing
+  pub later : Follows found before
+  pub lanes_is : after.lanes ≡ found.lanes
+
+-- so many such turns, one after the other
+abbrev pub HasMade : ℕ → Standing → Standing → Type 0
+HasMade zero before after = after ≡ before
+HasMade (suc n) before after = (between : Standing) × HasMade n before between × LeavesAll between after
 
 -- a worker goes on behind a step, and behind a turn without one while a lane is left
 abbrev pub GoesOn : Result Turned StepFault → ℕ → Type 0
@@ -32,7 +43,9 @@ Ends (Err why) lanes = Unit {0}
 -- one turn of a worker, with what is said of its outcome and of the lanes that were left then
 pub record Turn (now : ℕ) (Says : Result Turned StepFault → ℕ → Type 0) (before after : Standing) : Type 0 where
   pub outcome : Result Turned StepFault
-  pub worked : Worked before after now outcome
+  pub found : Standing
+  pub later : Follows found before
+  pub turns : TurnsIn found after now outcome
   pub says : Says outcome after.lanes
 
 -- so many turns, one after the other, behind each of which the worker goes on

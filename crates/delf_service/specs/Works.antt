@@ -1,20 +1,22 @@
 -- What a turn of a worker finds, and what it leaves.
-use Rattle.std.specs.Prelude.{◌≡◌, ◌≢◌, ℕ, false, List, Option, Some, None, Result, Ok, Err, length}
+use Rattle.std.specs.Prelude.{◌≡◌, ◌≢◌, ℕ, false, List, [], Option, Some, None, Result, Ok, Err, length}
 use Rattle.delf_model.specs.declared.entry.What.{What}
 use Rattle.delf_model.specs.Legal.{Legal}
 use Rattle.delf_model.specs.Order.{first_step}
 use Rattle.delf_model.specs.Room.{moment_of}
 use Rattle.delf_model.specs.Sound.{FirstIsLegal}
 use Rattle.delf_model.specs.State.{Logged}
-use Rattle.delf_book.specs.Steps.{PutsItem}
+use Rattle.delf_model.specs.declared.entry.Entry.{Entry}
+use Rattle.delf_book.specs.Steps.{PutsItem, TellsDamage}
 use Rattle.delf_book.specs.declared.answers.StepFault.{StepFault}
 use Rattle.delf_book.specs.declared.answers.StepFault.TheVariants as fault
 use Rattle.delf_service.specs.declared.answers.Turned.{Turned}
 use Rattle.delf_service.specs.declared.answers.Turned.TheVariants as turned
 use Rattle.delf_service.specs.declared.standing.Standing.{Standing}
-use Rattle.delf_service.specs.Calls.{entry_in, with_entry, Falls, IsDown}
-use Rattle.delf_service.specs.Follows.{Follows}
-use Rattle.delf_service.specs.Standings.{seat_of, state_at}
+use Rattle.seat_lock.specs.declared.view.View.{View}
+use Rattle.delf_service.specs.Calls.{entry_in, with_entry, PayloadsIn, Falls, IsDown}
+use Rattle.delf_service.specs.Standings.{IsCaused, IsPlain, StoodWhole, payloads_of, seat_of, state_at}
+use Rattle.delf_service.specs.Turns.{HadTurn}
 
 -- the first step of the serial order, where the clock says `now`
 abbrev pub first_in : Standing → ℕ → Option What
@@ -26,7 +28,8 @@ pub record SteppedIn (x y : Standing) (now position : ℕ) : Type 0 where
   pub what : What
   pub is_first : first_in x now ≡ Some what
   pub maker : seat_of (entry_in x now what) ≡ None
-  pub left : y ≡ with_entry x (entry_in x now what)
+  pub left : y ≡ with_entry x (entry_in x now what) (payloads_of y)
+  pub payloads : PayloadsIn x y (entry_in x now what) []
   pub position_is : position ≡ length x.history
 
 -- there is no step
@@ -50,7 +53,8 @@ pub record StepFellIn (x y : Standing) (now len : ℕ) : Type 0 where
   pub falls : Falls x y
   pub length_is : len ≡ length x.history
 
--- the item that the step would put back has another digest than the one that was logged
+-- The item that the step would put back has another digest than the one that was logged: the one is its seal, the other
+-- that of the bytes that stand. It never comes where the store stood whole at the opening
 pub record DamagedIn (x y : Standing) (now item : ℕ) (stored found : List ℕ) : Type 0 where
   pub up : x.down ≡ false
   pub what : What
@@ -58,6 +62,8 @@ pub record DamagedIn (x y : Standing) (now item : ℕ) (stored found : List ℕ)
   pub logged : Logged
   pub puts : PutsItem (state_at x) what item logged
   pub differ : stored ≢ found
+  pub tells : IsPlain x.key → TellsDamage (state_at x) (payloads_of x) item stored found
+  pub never : IsPlain x.key → StoodWhole x.key → ⊥
   pub same : y ≡ x
 
 -- the answer to a turn that finds the standing x and leaves y
@@ -74,9 +80,10 @@ pub record TurnsIn (x y : Standing) (now : ℕ) (outcome : Result Turned StepFau
   pub legal : Legal x.key.rules x.history
   pub order : x.down ≡ false → FirstIsLegal (state_at x) (moment_of (state_at x) now)
   pub steps : StepsIn x y now outcome
+  pub cause : IsCaused y
 
--- what the seat has seen before and after a turn
-pub record Worked (before after : Standing) (now : ℕ) (outcome : Result Turned StepFault) : Type 0 where
+-- a turn of a worker's seat: it found a standing that follows what the seat had seen
+pub record Worked (v w : View Standing Entry) (now : ℕ) (outcome : Result Turned StepFault) : Type 0 where
   pub found : Standing
-  pub later : Follows found before
-  pub turns : TurnsIn found after now outcome
+  pub turn : HadTurn v w found
+  pub turns : TurnsIn found w.seen.state now outcome

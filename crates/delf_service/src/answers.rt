@@ -9,7 +9,8 @@ pub struct Answer {
     pub reply: Result<Receipt, Refusal>,
 }
 
-/// The object with its owner, at the length of the history that was found, and why its payload was not read.
+/// The object with its owner, at the length of the history that was found, and why its payload was not read, or that the
+/// book is down where there is no such object.
 #[derive(Clone, Copy, PartialEq, Eq, Debug)]
 pub struct Asked {
     pub at: u32,

@@ -3,7 +3,7 @@ ghost use Rattle.std.specs.Prelude.{◌≡◌, ◌<◌, ◌≤◌, ◌+◌, ℕ,
 ghost use Rattle.delf_model.specs.declared.script.LaneCommand.{LaneCommand as Commanded};
 ghost use Rattle.seat_lock.specs.Views.{IsRoot};
 ghost use Rattle.seat_lock.specs.Locks.{view, IsOf, start_of};
-ghost use Rattle.delf_service.specs.Blocks.{HasLanes, IsBlock};
+ghost use Rattle.delf_service.specs.Blocks.{AreToldLanes, HasLanes, IsBlock};
 ghost use Rattle.delf_service.specs.Lanes.{HasCommand};
 ghost use Rattle.delf_service.specs.Rows.{IsReady, IsRowRun, commands_at};
 ghost use Rattle.delf_service.specs.Seats.{Starts};
@@ -166,14 +166,15 @@ impl<G: GraphStore + Send, R: Rig + Send> Service<G, R> {
         room: Room<Held<G, R>>,
     ) -> (Book<G, R>, bool, Vec<LaneOut>)
         requires ours { IsOf self.lock root }
-        requires starts { Starts (standing_in R.Disk.faults (start_of self.lock).book (start_of self.lock).moment (start_of self.lock).lanes) (view root) }
+        requires starts { Starts (standing_in R.Disk (start_of self.lock).book (start_of self.lock).moment (start_of self.lock).lanes) (view root) }
         requires few { (length lanes.now ≤ length room.lists.items) × (length room.lists.items ≤ 32) × (length (start_of self.lock).book.history ≤ 500000) }
         requires moment { (start_of self.lock).moment ≡ Some now }
+        requires counted { (start_of self.lock).lanes ≡ length lanes.now }
         requires numbers { (k i : ℕ) (c : Commanded) → slice_get (commands_at lanes.now k) i ≡ Some c → HasCommand (start_of self.lock).book.rules c }
         requires room { HasRooms lanes.now (λ l. l.items) (λ l. vec_capacity l) room.lists.items }
         requires none { (room.rows.items ≡ []) × (room.seats.items ≡ []) × (room.outs.items ≡ []) }
         requires fits { (length room.lists.items ≤ vec_capacity room.rows) × (length room.lists.items ≤ vec_capacity room.seats) × (length room.lists.items ≤ vec_capacity room.outs) }
-        ensures { RanLanes (standing_of R.Disk.faults (start_of self.lock).book (start_of self.lock).moment) (standing_of R.Disk.faults result.0 (Some now)) now lanes.now result.2.items result.1 }
+        ensures { RanLanes (standing_of R.Disk (start_of self.lock).book (start_of self.lock).moment) (standing_of R.Disk result.0 (Some now)) now lanes.now result.2.items result.1 }
     {
         let Room {
             lists,
@@ -203,7 +204,7 @@ impl<G: GraphStore + Send, R: Rig + Send> Service<G, R> {
         room: Room<Held<G, R>>,
     ) -> (Book<G, R>, Result<Vec<LaneOut>, AllocError>)
         requires ours { IsOf self.lock root }
-        requires starts { Starts (standing_in R.Disk.faults (start_of self.lock).book (start_of self.lock).moment (start_of self.lock).lanes) (view root) }
+        requires starts { Starts (standing_in R.Disk (start_of self.lock).book (start_of self.lock).moment (start_of self.lock).lanes) (view root) }
         requires few { (length lanes.now ≤ length room.lists.items) × (length room.lists.items ≤ 32) × (length (start_of self.lock).book.history ≤ 500000) }
         requires moment { (start_of self.lock).moment ≡ Some now }
         requires counted { (start_of self.lock).lanes ≡ length lanes.now }
@@ -211,8 +212,9 @@ impl<G: GraphStore + Send, R: Rig + Send> Service<G, R> {
         requires room { HasRooms lanes.now (λ l. l.items) (λ l. vec_capacity l) room.lists.items }
         requires none { (room.rows.items ≡ []) × (room.seats.items ≡ []) × (room.outs.items ≡ []) }
         requires fits { (length room.lists.items ≤ vec_capacity room.rows) × (length room.lists.items ≤ vec_capacity room.seats) × (length room.lists.items ≤ vec_capacity room.outs) }
-        ensures kept { HasLanes (standing_of R.Disk.faults (start_of self.lock).book (start_of self.lock).moment) (standing_of R.Disk.faults result.0 (Some now)) (length lanes.now) }
-        ensures block { IfOk result.1 (λ outs. IsBlock (standing_of R.Disk.faults (start_of self.lock).book (start_of self.lock).moment) (standing_of R.Disk.faults result.0 (Some now)) now lanes.now outs.items) }
+        ensures kept { HasLanes (standing_of R.Disk (start_of self.lock).book (start_of self.lock).moment) (standing_of R.Disk result.0 (Some now)) (length lanes.now) }
+        ensures told { AreToldLanes (standing_of R.Disk (start_of self.lock).book (start_of self.lock).moment) (standing_of R.Disk result.0 (Some now)) now lanes.now }
+        ensures block { IfOk result.1 (λ outs. IsBlock (standing_of R.Disk (start_of self.lock).book (start_of self.lock).moment) (standing_of R.Disk result.0 (Some now)) now lanes.now outs.items) }
     {
         let (book, fed, outs) = self.run_and_close(rt, alloc, root, now, lanes, turns, gate, room);
         let mut held = Held {
@@ -245,7 +247,8 @@ impl<G: GraphStore + Send, R: Rig + Send> Service<G, R> {
 /// step, or has the number of the seat of one lane. With `Ok` these are the entries of that lane's accepted calls, each
 /// once and in their order. A lane ends at its end, or at a call that wanted memory. An `Err` is want of memory for the
 /// block, for a payload that was asked for or for one of the last steps; the book then has what lanes and workers did so
-/// far, and the replies are lost. A worker that wanted memory for a step ends, and the last steps decide.
+/// far, and the replies are lost: there were some, by which its entries are told as with `Ok`. A worker that wanted memory for
+/// a step ends, and the last steps decide. The book is of the kind that it was, opened as it was.
 pub fn run_lanes<W: Threads + Wait + Sync, G: GraphStore + Send, R: Rig + Send, Q: Gate + Sync>(
     rt: &W,
     alloc: Global,
@@ -259,10 +262,12 @@ pub fn run_lanes<W: Threads + Wait + Sync, G: GraphStore + Send, R: Rig + Send, 
     requires few { length lanes.now ≤ 16 }
     requires workers { workers ≤ 16 }
     requires numbers { (k i : ℕ) (c : Commanded) → slice_get (commands_at lanes.now k) i ≡ Some c → HasCommand book.rules c }
-    ensures kept { HasLanes (standing_of R.Disk.faults book (Some now)) (standing_of R.Disk.faults result.0 (Some now)) (length lanes.now) }
-    ensures block { IfOk result.1 (λ outs. IsBlock (standing_of R.Disk.faults book (Some now)) (standing_of R.Disk.faults result.0 (Some now)) now lanes.now outs.items) }
+    ensures kept { HasLanes (standing_of R.Disk book (Some now)) (standing_of R.Disk result.0 (Some now)) (length lanes.now) }
+    ensures told { AreToldLanes (standing_of R.Disk book (Some now)) (standing_of R.Disk result.0 (Some now)) now lanes.now }
+    ensures block { IfOk result.1 (λ outs. IsBlock (standing_of R.Disk book (Some now)) (standing_of R.Disk result.0 (Some now)) now lanes.now outs.items) }
 {
     let _len = book.len();
+    book.standing();
     let rows = lanes.len() + workers as usize;
     let Ok(room) = room_for(alloc, lanes, rows) else {
         return (book, Err(AllocError));

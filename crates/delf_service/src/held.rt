@@ -5,13 +5,13 @@ ghost use Rattle.delf_service.specs.Standings.{seat_of, standing_in, blank_stand
 ghost use Rattle.delf_service.specs.Follows.{Follows};
 ghost use Rattle.delf_service.specs.FollowLaws.{Follows-itself, Follows-chain, Follows-grows};
 ghost use Rattle.delf_service.specs.Calls.{CallsIn};
-ghost use Rattle.delf_service.specs.Asks.{AsksIn};
+ghost use Rattle.delf_service.specs.Asks.{AsksIn, down_fault};
 ghost use Rattle.delf_service.specs.Works.{TurnsIn};
 ghost use Rattle.delf_service.specs.Blocks.{IsBehind, Rests};
 
 use crate::answers::{Answer, Asked, Turned};
 use crate::standing::Standing;
-use delf_book::{Book, StepFault, Worked};
+use delf_book::{Book, BookFault, StepFault, Worked};
 use delf_disk::Rig;
 use delf_model::{Call, Entry, GraphStore, LIMIT, Moment, ObjectId};
 use seat_lock::Counted;
@@ -26,12 +26,23 @@ pub struct Held<G: GraphStore, R: Rig> {
     pub(crate) lanes: u8,
 }
 
+// That a book of this length is down, where it is.
+fn fault_if(down: bool, len: u32) -> Option<BookFault>
+    ensures { result ≡ down_fault down len }
+{
+    if down {
+        Some(BookFault::Down { len })
+    } else {
+        None
+    }
+}
+
 impl<G: GraphStore, R: Rig> Counted for Held<G, R> {
     type State = Standing;
 
     type Entry = Entry;
 
-    ghost state = { λ h. standing_in R.Disk.faults h.book h.moment h.lanes };
+    ghost state = { λ h. standing_in R.Disk h.book h.moment h.lanes };
 
     ghost blank = { blank_standing };
 
@@ -57,33 +68,49 @@ impl<G: GraphStore, R: Rig> Held<G, R> {
     pub(crate) fn submit(&mut self, now: Moment, seat: u32, call: &Call) -> Answer
         requires numbers { HasNumbers self.old.book.rules call.now }
         requires seat { seat ≤ 64 * (length self.old.book.history + 1) }
-        ensures { CallsIn (standing_in R.Disk.faults self.old.book self.old.moment self.old.lanes) (standing_in R.Disk.faults self.new.book self.new.moment self.new.lanes) now seat call.now result }
+        ensures { CallsIn (standing_in R.Disk self.old.book self.old.moment self.old.lanes) (standing_in R.Disk self.new.book self.new.moment self.new.lanes) now seat call.now result }
     {
         let at = self.book.len();
         let reply = self.book.call(now, seat, call);
+        self.book.standing();
         Answer { at, reply }
     }
 
-    // The object with its owner, and its payload, at the front of the bytes.
+    // The object with its owner, and its payload, at the front of the bytes. A down book says that it is down.
     pub(crate) fn ask(&mut self, id: ObjectId) -> (Asked, [u8; LIMIT])
-        ensures { AsksIn (standing_in R.Disk.faults self.old.book self.old.moment self.old.lanes) (standing_in R.Disk.faults self.new.book self.new.moment self.new.lanes) id result.0 }
+        ensures { AsksIn (standing_in R.Disk self.old.book self.old.moment self.old.lanes) (standing_in R.Disk self.new.book self.new.moment self.new.lanes) id result.1 result.0 }
     {
         let mut bytes = [0; LIMIT];
         let at = self.book.len();
-        let found = self.book.get(id);
-        let fault = match &found {
-            Some(_) => self.book.read_object(id, &mut bytes).err(),
-            None => None,
+        self.book.standing();
+        let Some(row) = self.book.get(id) else {
+            let fault = fault_if(self.book.is_down(), at);
+            let asked = Asked {
+                at,
+                found: None,
+                fault,
+            };
+            return (asked, bytes);
         };
-        (Asked { at, found, fault }, bytes)
+        let fault = self.book.read_object(id, &mut bytes).err();
+        self.book.standing();
+        let asked = Asked {
+            at,
+            found: Some(row),
+            fault,
+        };
+        (asked, bytes)
     }
 
     // A step of a worker.
     pub(crate) fn work(&mut self, now: Moment) -> Result<Turned, StepFault>
-        ensures { TurnsIn (standing_in R.Disk.faults self.old.book self.old.moment self.old.lanes) (standing_in R.Disk.faults self.new.book self.new.moment self.new.lanes) now result }
+        ensures { TurnsIn (standing_in R.Disk self.old.book self.old.moment self.old.lanes) (standing_in R.Disk self.new.book self.new.moment self.new.lanes) now result }
     {
         let _len = self.book.len();
-        match self.book.work(now) {
+        self.book.standing();
+        let outcome = self.book.work(now);
+        self.book.standing();
+        match outcome {
             Ok(Worked::Stepped { position }) => Ok(Turned::Stepped { position }),
             Ok(Worked::Idle { len }) => Ok(Turned::Idle { len }),
             Err(fault) => Err(fault),
@@ -92,7 +119,7 @@ impl<G: GraphStore, R: Rig> Held<G, R> {
 
     // A step of a worker of a block, and how many lanes are left.
     pub(crate) fn turn(&mut self, now: Moment) -> (Result<Turned, StepFault>, u8)
-        ensures step { TurnsIn (standing_in R.Disk.faults self.old.book self.old.moment self.old.lanes) (standing_in R.Disk.faults self.new.book self.new.moment self.new.lanes) now result.0 }
+        ensures step { TurnsIn (standing_in R.Disk self.old.book self.old.moment self.old.lanes) (standing_in R.Disk self.new.book self.new.moment self.new.lanes) now result.0 }
         ensures lanes { result.1 ≡ self.new.lanes }
     {
         let outcome = self.work(now);
@@ -110,12 +137,13 @@ impl<G: GraphStore, R: Rig> Held<G, R> {
     pub(crate) fn finish(&mut self, now: Moment) -> Result<(), AllocError>
         requires moment { self.old.moment ≡ Some now }
         ensures moment { self.new.moment ≡ self.old.moment }
-        ensures behind { IsBehind (standing_in R.Disk.faults self.old.book self.old.moment self.old.lanes) (standing_in R.Disk.faults self.new.book self.new.moment self.new.lanes) }
-        ensures rests { OnOk result (Rests (standing_in R.Disk.faults self.new.book self.new.moment self.new.lanes) now) }
+        ensures behind { IsBehind (standing_in R.Disk self.old.book self.old.moment self.old.lanes) (standing_in R.Disk self.new.book self.new.moment self.new.lanes) }
+        ensures rests { OnOk result (Rests (standing_in R.Disk self.new.book self.new.moment self.new.lanes) now) }
     {
         loop {
             let outcome = self.work(now);
             let _len = self.book.len();
+            self.book.standing();
             match outcome {
                 Ok(Turned::Stepped { .. }) => {}
                 Err(StepFault::OutOfMemory) => return Err(AllocError),

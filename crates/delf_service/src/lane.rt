@@ -4,11 +4,12 @@ ghost use Rattle.delf_model.specs.declared.script.LaneCommand.{LaneCommand as Co
 ghost use Rattle.seat_lock.specs.Views.{IsSameSeat};
 ghost use Rattle.seat_lock.specs.Locks.{view, IsOf};
 ghost use Rattle.delf_service.specs.Follows.{Follows, IsMoment};
-ghost use Rattle.delf_service.specs.Lanes.{HasCommand, LaneTold, Ended, Makes, Stops};
-ghost use Rattle.delf_service.specs.Rows.{IsReady};
-ghost use Rattle.delf_service.specs.Workers.{LeavesOne};
-ghost use Rattle.delf_service.specs.declared.standing.Standing.{Standing};
+ghost use Rattle.delf_service.specs.Lanes.{HasCommand, LaneTold, Ended, Makes, Stops, size_read};
+ghost use Rattle.delf_service.specs.Rows.{IsOver, IsReady};
+ghost use Rattle.delf_service.specs.Turns.{Keeps};
+ghost use Rattle.delf_service.specs.Workers.{HasMade};
 
+use crate::answers::Asked;
 use crate::gate::Gate;
 use crate::replies::LaneReply;
 use crate::service::{Seat, Service};
@@ -16,6 +17,16 @@ use delf_disk::Rig;
 use delf_model::{Bytes, GraphStore, LIMIT, LaneCommand, Moment};
 use std::alloc::Global;
 use std::sync::Wait;
+
+// How many bytes were read at the front of the buffer.
+fn size_of(asked: &Asked) -> usize
+    ensures { result ≡ size_read asked.now.found asked.now.fault }
+{
+    match (&asked.found, &asked.fault) {
+        (Some((row, _)), None) => (row.size as usize).min(LIMIT),
+        _ => 0,
+    }
+}
 
 impl<G: GraphStore, R: Rig> Service<G, R> {
     /// Makes one command of a lane, and tells the gate of the entry of an accepted call. None is want of memory for a
@@ -35,8 +46,8 @@ impl<G: GraphStore, R: Rig> Service<G, R> {
         requires moment { IsMoment (view seat.old).seen.state.key now }
         ensures ours { IsOf self.now.lock seat.new }
         ensures same { IsSameSeat (view seat.old) (view seat.new) }
-        ensures made { IfSome result (λ r. Makes (view seat.old).seen.state (view seat.new).seen.state (view seat.old).made (view seat.new).made now (view seat.old).number command.now r) }
-        ensures stopped { IfNone result (Stops (view seat.old).seen.state (view seat.new).seen.state (view seat.old).made (view seat.new).made) }
+        ensures made { IfSome result (λ r. Makes (view seat.old) (view seat.new) now command.now r) }
+        ensures stopped { IfNone result (Stops (view seat.old) (view seat.new)) }
     {
         match command {
             LaneCommand::Submit(call) => {
@@ -49,11 +60,7 @@ impl<G: GraphStore, R: Rig> Service<G, R> {
             LaneCommand::Get(id) => {
                 let mut bytes = [0; LIMIT];
                 let asked = self.ask(rt, seat, *id, &mut bytes);
-                let size = match &asked.found {
-                    Some((row, _)) => (row.size as usize).min(LIMIT),
-                    None => 0,
-                };
-                let payload = Bytes::of(alloc, &bytes[..size]).ok()?;
+                let payload = Bytes::of(alloc, &bytes[..size_of(&asked)]).ok()?;
                 Some(LaneReply::Got { asked, payload })
             }
         }
@@ -81,8 +88,10 @@ impl<G: GraphStore, R: Rig> Service<G, R> {
         ensures ours { IsOf self.now.lock seat.new }
         ensures same { IsSameSeat (view seat.old) (view seat.new) }
         ensures later { Follows (view seat.new).seen.state (view seat.old).seen.state }
-        ensures told { LaneTold (view seat.new).seen.state now (view seat.old).number (view seat.new).made commands.now replies.new.items }
+        ensures told { LaneTold (view seat.new).remembers (view seat.new).seen.state now (view seat.old).number (view seat.new).made commands.now replies.new.items }
         ensures end { IsTrue result → Ended commands.now replies.new.items }
+        ensures keeps { Keeps (view seat.old) (view seat.new) }
+        ensures turns { (n : ℕ) × HasMade n (view seat.old).seen.state (view seat.new).seen.state }
     {
         for command in commands {
             let Some(reply) = self.make(rt, alloc, seat, now, command, gate) else {
@@ -113,9 +122,10 @@ impl<G: GraphStore, R: Rig> Service<G, R> {
         ensures ours { IsOf self.now.lock seat.new }
         ensures same { IsSameSeat (view seat.old) (view seat.new) }
         ensures later { Follows (view seat.new).seen.state (view seat.old).seen.state }
-        ensures told { LaneTold (view seat.new).seen.state now (view seat.old).number (view seat.new).made commands.now replies.new.items }
+        ensures told { LaneTold (view seat.new).remembers (view seat.new).seen.state now (view seat.old).number (view seat.new).made commands.now replies.new.items }
         ensures end { IsTrue result → Ended commands.now replies.new.items }
-        ensures left { (last : Standing) × Follows last (view seat.old).seen.state × LeavesOne last (view seat.new).seen.state }
+        ensures keeps { Keeps (view seat.old) (view seat.new) }
+        ensures over { IsOver (view seat.old).seen.state (view seat.new).seen.state }
     {
         let fed = self.run_lane(rt, alloc, seat, now, commands, gate, replies);
         self.leave(rt, seat);

@@ -1,5 +1,5 @@
 //! What the commands of a lane are answered.
-ghost use Rattle.std.specs.Prelude.{IsTrue};
+ghost use Rattle.std.specs.Prelude.{◌↔◌, IsTrue};
 ghost use Rattle.delf_service.specs.Lanes.{IsStarved};
 
 use crate::answers::{Answer, Asked};
@@ -10,7 +10,7 @@ use delf_model::{Bytes, List, Refusal};
 pub enum LaneReply {
     /// Of a writing call.
     Submitted(Answer),
-    /// Of a question, with the payload where `fault` is None.
+    /// Of a question, with the payload of the object where it was found and `fault` is None, else with an empty one.
     Got { asked: Asked, payload: Bytes },
 }
 
@@ -23,7 +23,7 @@ pub struct LaneOut {
 impl LaneReply {
     // Whether a call was not made for want of memory.
     pub(crate) fn is_starved(&self) -> bool
-        ensures { IsTrue result → IsStarved self.now }
+        ensures { IsTrue result ↔ IsStarved self.now }
     {
         match self {
             LaneReply::Submitted(answer) => match answer.reply {

@@ -2,10 +2,8 @@
 ghost use Rattle.std.specs.Prelude.{◌≡◌, ◌<◌, ℕ, [], length, slice_index_or, vec_capacity};
 ghost use denote.Param.Send.{IsSync};
 ghost use Rattle.seat_lock.specs.Locks.{view, IsOf};
-ghost use Rattle.delf_service.specs.Follows.{Follows};
-ghost use Rattle.delf_service.specs.Rows.{IsReady, IsRun, IsRowRun, commands_at};
-ghost use Rattle.delf_service.specs.Workers.{LeavesOne, WorkerDone};
-ghost use Rattle.delf_service.specs.declared.standing.Standing.{Standing};
+ghost use Rattle.delf_service.specs.Rows.{IsOver, IsReady, IsRun, IsRowRun, commands_at};
+ghost use Rattle.delf_service.specs.Workers.{WorkerDone};
 
 use crate::gate::Gate;
 use crate::held::Held;
@@ -52,7 +50,7 @@ impl<G: GraphStore, R: Rig> Service<G, R> {
         requires ready { IsReady now (commands_at lanes.now place) (view row.old.seat) row.old.replies.items (vec_capacity row.old.replies) }
         ensures ours { IsOf self.now.lock row.new.seat }
         ensures run { IsRun now (commands_at lanes.now place) (view row.old.seat) (view row.new.seat) row.new.replies.items row.new.starved }
-        ensures left { (last : Standing) × Follows last (view row.old.seat).seen.state × LeavesOne last (view row.new.seat).seen.state }
+        ensures over { IsOver (view row.old.seat).seen.state (view row.new.seat).seen.state }
     {
         let commands = commands_of(lanes, place);
         let Row {

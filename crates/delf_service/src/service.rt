@@ -9,6 +9,7 @@ ghost use Rattle.delf_service.specs.Calls.{CallsIn, Submitted, added_by};
 ghost use Rattle.delf_service.specs.Follows.{IsMoment};
 ghost use Rattle.delf_service.specs.Seats.{Starts, JoinedTo, Closed};
 ghost use Rattle.delf_service.specs.Standings.{standing_in, standing_of};
+ghost use Rattle.delf_service.specs.Turns.{Keeps};
 ghost use Rattle.delf_service.specs.Workers.{LeavesOne, one_left};
 ghost use Rattle.delf_service.specs.Works.{TurnsIn, Worked};
 
@@ -35,8 +36,8 @@ impl<G: GraphStore, R: Rig> Service<G, R> {
     /// A service over the book, and its root seat, which has seen the book. Its number is the first one above 0 and
     /// above each seat of the history. An `Err` is want of memory, and hands the book back.
     pub fn start(alloc: Global, book: Book<G, R>) -> Result<(Service<G, R>, Seat<G, R>), Book<G, R>>
-        ensures ok { IfOk result (λ r. IsOf r.0.lock r.1 × Starts (standing_of R.Disk.faults book None) (view r.1)) }
-        ensures begun { IfOk result (λ r. standing_in R.Disk.faults (start_of r.0.lock).book (start_of r.0.lock).moment (start_of r.0.lock).lanes ≡ standing_of R.Disk.faults book None) }
+        ensures ok { IfOk result (λ r. IsOf r.0.lock r.1 × Starts (standing_of R.Disk book None) (view r.1)) }
+        ensures begun { IfOk result (λ r. standing_in R.Disk (start_of r.0.lock).book (start_of r.0.lock).moment (start_of r.0.lock).lanes ≡ standing_of R.Disk book None) }
         ensures err { IfErr result (λ b. b ≡ book) }
     {
         Service::with_lanes(alloc, book, None, 0)
@@ -49,8 +50,8 @@ impl<G: GraphStore, R: Rig> Service<G, R> {
         moment: Option<Moment>,
         lanes: u8,
     ) -> Result<(Service<G, R>, Seat<G, R>), Book<G, R>>
-        ensures ok { IfOk result (λ r. IsOf r.0.lock r.1 × Starts (standing_in R.Disk.faults book moment lanes) (view r.1)) }
-        ensures begun { IfOk result (λ r. standing_in R.Disk.faults (start_of r.0.lock).book (start_of r.0.lock).moment (start_of r.0.lock).lanes ≡ standing_in R.Disk.faults book moment lanes) }
+        ensures ok { IfOk result (λ r. IsOf r.0.lock r.1 × Starts (standing_in R.Disk book moment lanes) (view r.1)) }
+        ensures begun { IfOk result (λ r. standing_in R.Disk (start_of r.0.lock).book (start_of r.0.lock).moment (start_of r.0.lock).lanes ≡ standing_in R.Disk book moment lanes) }
         ensures err { IfErr result (λ b. b ≡ book) }
     {
         let _len = book.len();
@@ -94,7 +95,7 @@ impl<G: GraphStore, R: Rig> Service<G, R> {
         requires moment { IsMoment (view seat.old).seen.state.key now }
         ensures ours { IsOf self.now.lock seat.new }
         ensures same { IsSameSeat (view seat.old) (view seat.new) }
-        ensures call { Submitted (view seat.old).seen.state (view seat.new).seen.state now (view seat.old).number call.now result }
+        ensures call { Submitted (view seat.old) (view seat.new) now call.now result }
         ensures made { (view seat.new).made ≡ (view seat.old).made ++ added_by (view seat.new).seen.state result }
     {
         let number = seat.number();
@@ -103,25 +104,25 @@ impl<G: GraphStore, R: Rig> Service<G, R> {
             seat,
             |held: &mut Held<G, R>| -> Answer
                 requires { HasNumbers held.old.book.rules call.now × (number ≤ 64 * (length held.old.book.history + 1)) }
-                ensures { CallsIn (standing_in R.Disk.faults held.old.book held.old.moment held.old.lanes) (standing_in R.Disk.faults held.new.book held.new.moment held.new.lanes) now number call.entry.now result }
+                ensures { CallsIn (standing_in R.Disk held.old.book held.old.moment held.old.lanes) (standing_in R.Disk held.new.book held.new.moment held.new.lanes) now number call.entry.now result }
             { held.submit(now, number, call) },
         )
     }
 
     /// Waits for the turn, and answers the object with its owner. Its payload is read to the front of `buf`, which has
-    /// room for 512 bytes; `fault` says why it was not.
+    /// room for 512 bytes; `fault` says why it was not. A book that is down says so whether the object is there or not.
     pub fn ask<W: Wait>(&self, rt: &W, seat: &mut Seat<G, R>, id: ObjectId, buf: &mut [u8]) -> Asked
         requires ours { IsOf self.now.lock seat.old }
         requires room { LIMIT ≤ length buf.old }
         ensures ours { IsOf self.now.lock seat.new }
         ensures same { IsSameSeat (view seat.old) (view seat.new) × ((view seat.new).made ≡ (view seat.old).made) }
-        ensures asked { Inquired (view seat.old).seen.state (view seat.new).seen.state id result }
+        ensures asked { Inquired (view seat.old) (view seat.new) id buf.new result }
     {
         let (asked, bytes) = self.lock.with(
             rt,
             seat,
             |held: &mut Held<G, R>| -> (Asked, [u8; LIMIT])
-                ensures asked { AsksIn (standing_in R.Disk.faults held.old.book held.old.moment held.old.lanes) (standing_in R.Disk.faults held.new.book held.new.moment held.new.lanes) id result.0 }
+                ensures asked { AsksIn (standing_in R.Disk held.old.book held.old.moment held.old.lanes) (standing_in R.Disk held.new.book held.new.moment held.new.lanes) id result.1 result.0 }
                 ensures size { length result.1 ≡ LIMIT }
             { held.ask(id) },
         );
@@ -142,7 +143,7 @@ impl<G: GraphStore, R: Rig> Service<G, R> {
         requires moment { IsMoment (view seat.old).seen.state.key now }
         ensures ours { IsOf self.now.lock seat.new }
         ensures same { IsSameSeat (view seat.old) (view seat.new) × ((view seat.new).made ≡ (view seat.old).made) }
-        ensures turn { Worked (view seat.old).seen.state (view seat.new).seen.state now result }
+        ensures turn { Worked (view seat.old) (view seat.new) now result }
     {
         self.turn(rt, seat, now, gate).0
     }
@@ -159,14 +160,14 @@ impl<G: GraphStore, R: Rig> Service<G, R> {
         requires moment { IsMoment (view seat.old).seen.state.key now }
         ensures ours { IsOf self.now.lock seat.new }
         ensures same { IsSameSeat (view seat.old) (view seat.new) × ((view seat.new).made ≡ (view seat.old).made) }
-        ensures turn { Worked (view seat.old).seen.state (view seat.new).seen.state now result.0 }
+        ensures turn { Worked (view seat.old) (view seat.new) now result.0 }
         ensures lanes { result.1 ≡ (view seat.new).seen.state.lanes }
     {
         let (outcome, lanes) = self.lock.with(
             rt,
             seat,
             |held: &mut Held<G, R>| -> (Result<Turned, StepFault>, u8)
-                ensures step { TurnsIn (standing_in R.Disk.faults held.old.book held.old.moment held.old.lanes) (standing_in R.Disk.faults held.new.book held.new.moment held.new.lanes) now result.0 }
+                ensures step { TurnsIn (standing_in R.Disk held.old.book held.old.moment held.old.lanes) (standing_in R.Disk held.new.book held.new.moment held.new.lanes) now result.0 }
                 ensures lanes { result.1 ≡ held.new.lanes }
             { held.turn(now) },
         );
@@ -182,12 +183,13 @@ impl<G: GraphStore, R: Rig> Service<G, R> {
         ensures ours { IsOf self.now.lock seat.new }
         ensures same { IsSameSeat (view seat.old) (view seat.new) × ((view seat.new).made ≡ (view seat.old).made) }
         ensures left { LeavesOne (view seat.old).seen.state (view seat.new).seen.state }
+        ensures keeps { Keeps (view seat.old) (view seat.new) }
     {
         self.lock.with(
             rt,
             seat,
             |held: &mut Held<G, R>|
-                ensures { standing_in R.Disk.faults held.new.book held.new.moment held.new.lanes ≡ one_left (standing_in R.Disk.faults held.old.book held.old.moment held.old.lanes) }
+                ensures { standing_in R.Disk held.new.book held.new.moment held.new.lanes ≡ one_left (standing_in R.Disk held.old.book held.old.moment held.old.lanes) }
             { held.leave() },
         );
     }
@@ -199,7 +201,7 @@ impl<G: GraphStore, R: Rig> Service<G, R> {
         requires each { (k : ℕ) (s : _) → slice_get seats.items k ≡ Some s → IsOf self.lock s }
         requires root { IsRoot (view root) }
         requires all { out_of (view root) ≡ length seats.items }
-        ensures { (moment : Option ℕ) × Closed (standing_in R.Disk.faults (start_of self.lock).book (start_of self.lock).moment (start_of self.lock).lanes) (view root) (map (λ s. view s) seats.items) (standing_of R.Disk.faults result moment) }
+        ensures { (moment : Option ℕ) × Closed (standing_in R.Disk (start_of self.lock).book (start_of self.lock).moment (start_of self.lock).lanes) (view root) (map (λ s. view s) seats.items) (standing_of R.Disk result moment) }
     {
         let Service { lock } = self;
         let root = join_all(&lock, root, seats);
@@ -209,6 +211,7 @@ impl<G: GraphStore, R: Rig> Service<G, R> {
             lanes: _,
         } = lock.close(root);
         let _len = book.len();
+        book.standing();
         book
     }
 }

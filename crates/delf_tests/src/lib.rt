@@ -1,4 +1,4 @@
-//! Tests that cross crates: what runs print, and what a ledger answers, row by row. Nothing else stands here.
+//! Tests that cross crates: what runs print, row by row, and what an opening and a long graph answer. Nothing else stands here.
 #![tactic(auto)]
 
 #[cfg(test)]
@@ -6,13 +6,11 @@ mod checks;
 #[cfg(test)]
 mod choices;
 #[cfg(test)]
-mod drive;
+mod limits;
 #[cfg(test)]
 mod loads;
 #[cfg(test)]
 mod openings;
-#[cfg(test)]
-mod orders;
 #[cfg(test)]
 mod rows;
 #[cfg(test)]

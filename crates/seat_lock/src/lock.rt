@@ -12,6 +12,7 @@ use atomic_table::{Refused, Table};
 use std::alloc::{AllocError, AllocFailed, Global};
 use std::snapshot::Snapshot;
 use std::sync::Wait;
+use std::time::Duration;
 
 // The words of the table, and its slot.
 const HISTORY: usize = 0;
@@ -204,6 +205,14 @@ impl<V: Counted> SeatLock<V> {
         self.end_turn(&mut seat.place, value, after - before);
         seat.seen = after;
         outcome
+    }
+
+    /// Sleeps, for no longer than `dur`. It takes no turn, so it keeps nobody waiting, and tells nothing.
+    pub fn pause<R: Wait>(&self, rt: &R, dur: Duration) {
+        let shared = &self.table.shared;
+        let count = shared.peek(HISTORY);
+        // No call wakes those who park on the history, so only the time ends this sleep.
+        shared.park_timeout(rt, HISTORY, (count % (1 << 32)) as u32, dur);
     }
 
     /// Takes in a seat that was split from the root. The root has then seen the later of what the two have seen, and of

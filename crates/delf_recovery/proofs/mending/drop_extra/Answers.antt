@@ -9,7 +9,7 @@ use Rattle.delf_book.proofs.Writes.{on_ok}
 use Rattle.store_laws.specs.Stores.{StandBut}
 use Rattle.delf_recovery.proofs.ItemRecords.{item_inside}
 use Rattle.delf_recovery.proofs.VaultJudged.{item_there, item_gone}
-use Rattle.delf_recovery.proofs.Mended.{stands_in, rests_exact, drop_leaves, dropped_rests, exact_sizes, dropped_sizes}
+use Rattle.delf_recovery.proofs.Mended.{stands_in, rests_exact, drop_leaves, dropped_rests, drop_zeros, exact_sizes, dropped_sizes}
 use Rattle.delf_recovery.proofs.mending.drop_extra.Goals as goal
 
 pub returns-then-count-eq0-clause-sizes : goal.returns-then-count-eq0-clause-sizes
@@ -82,3 +82,14 @@ returns-clause-rests g c =
     c.requires.legal (omega (arith, gone, c.count-count.ensures, c.if-count-eq0.false)) e but (g.D.Disk.seen c.drop_last.new.disk)
     (subst (λ (a : Area). Drops a c.args.vault.now.sizes (g.D.Disk.seen c.args.disk.now) (g.D.Disk.seen c.drop_last.new.disk)) c.requires.area (dropped plain))))
     c.drop_last.ensures.dropped c.drop_last.ensures.durable
+
+pub returns-clause-zeros : goal.returns-clause-zeros
+returns-clause-zeros g c =
+    let f = c.args.fold.now in
+    let gone = item_gone (state_of f) _ c.has_item.result c.has_item.ensures c.if-has_item.false in
+    on_ok c.drop_last.result (λ dropped again plain.
+    let standing = c.requires.standing plain in
+    drop_zeros f.rules f.history (g.D.Disk.seen c.args.disk.now) c.args.vault.now.sizes standing (c.requires.sized plain) c.requires.items
+    c.requires.legal (omega (arith, gone, c.count-count.ensures, c.if-count-eq0.false)) standing.payloads standing.stand (g.D.Disk.seen c.drop_last.new.disk)
+    (subst (λ (a : Area). Drops a c.args.vault.now.sizes (g.D.Disk.seen c.args.disk.now) (g.D.Disk.seen c.drop_last.new.disk)) c.requires.area (dropped plain)))
+    c.drop_last.ensures.dropped c.drop_last.ensures.dropped

@@ -1,9 +1,12 @@
 use Rattle.std.proofs.Common.{◌∙◌, sym, subst}
+use Rattle.delf_disk.specs.declared.area.Area.TheVariants as area
 use Rattle.delf_disk.proofs.Flags.{stays_plain, was_plain}
 use Rattle.delf_disk.proofs.Moments.{leaves_kept}
+use Rattle.delf_model.specs.Payloads.{Journal, Vault}
 use Rattle.store_laws.specs.Stores.{Clean}
 use Rattle.delf_book.proofs.Sizes.{journal_in, vault_in}
 use Rattle.delf_book.proofs.Writes.{on_ok}
+use Rattle.delf_recovery.proofs.Notes.{noted_there}
 use Rattle.delf_recovery.proofs.Mended.{rests_leave, clean_now}
 use Rattle.delf_recovery.proofs.mending.mend.Goals as goal
 
@@ -21,6 +24,18 @@ scrub_dead-requires-clause-stands g c = λ now.
     journal_in f.rules f.history c.args.journal.now c.drop_extra.new.vault (g.D.Disk.may_leave c.drop_extra.new.disk)
     (record { journal_area = c.requires.journal; vault_area = c.drop_extra.ensures.area ∙ c.requires.vault; journal_is = c.requires.sizes; vault_is = c.in_ok-drop_extra.ensures.sizes })
     standing.payloads (c.in_ok-drop_extra.ensures.rests plain standing.payloads standing.stand)
+
+pub scrub_dead-requires-clause-noted : goal.scrub_dead-requires-clause-noted
+scrub_dead-requires-clause-noted g c = λ now k is.
+    let plain = was_plain c.drop_extra.ensures.kind now in
+    c.in_ok-drop_extra.ensures.zeros plain (Journal k) (c.requires.journal_noted plain k is)
+
+pub scrub_dead-requires-2-clause-noted : goal.scrub_dead-requires-2-clause-noted
+scrub_dead-requires-2-clause-noted g c = λ now.
+    let one = was_plain c.scrub_dead.ensures.kind now in
+    let plain = was_plain c.drop_extra.ensures.kind one in
+    noted_there area.Vault (g.D.Disk.seen c.drop_extra.new.disk) (g.D.Disk.seen c.scrub_dead.new.disk) c.args.vault_notes.now (c.in_ok-scrub_dead.ensures.other_area one)
+    (λ k is. c.in_ok-drop_extra.ensures.zeros plain (Vault k) (c.requires.vault_noted plain k is))
 
 pub returns-in_err-scrub_dead-clause-crash : goal.returns-in_err-scrub_dead-clause-crash
 returns-in_err-scrub_dead-clause-crash g c = λ plain e but.

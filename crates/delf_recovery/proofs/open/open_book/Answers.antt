@@ -23,7 +23,7 @@ returns-in-Ok-clause-opened g c = λ plain h e but.
 pub returns-in-Ok-clause-crash : goal.returns-in-Ok-clause-crash
 returns-in-Ok-clause-crash g c = λ plain h e but.
     subst (λ (x : g.row.R.Denot). Leaves g.R.Disk.moment g.R.Disk.may_leave g.R.Disk.left_since (λ (y : Areas). g.R.Disk.may_leave c.args.rig y ⊎ StandBut c.args.rules h e y) c.args.rig x)
-    (sym c.into_book.ensures.rig) (c.open_parts.ensures.crash plain h e but)
+    (sym c.into_book.ensures.rig) (c.in-Ok.ensures.crash plain h e but)
 
 pub returns-in-Ok-clause-found : goal.returns-in-Ok-clause-found
 returns-in-Ok-clause-found g c = λ plain.
@@ -33,17 +33,17 @@ pub returns-in-Ok-clause-payloads : goal.returns-in-Ok-clause-payloads
 returns-in-Ok-clause-payloads g c = λ plain h e but.
     let f = c.in-Ok.parts.fold in
     let opened = c.in-Ok.ensures.opened plain h e but in
-    let after_it = stays_plain c.open_parts.ensures.kind plain in
+    let after_it = stays_plain c.in-Ok.ensures.kind plain in
     subst (λ (d : Payloads). SamePayloads d e) (sym c.into_book.ensures.payloads)
-    (same_read c.args.rules f.rules h f.history e (g.R.Disk.seen c.open_parts.new.disk) c.in-Ok.ensures.rules opened.0 c.in-Ok.ensures.legal
-    (opened.1 (g.R.Disk.seen c.open_parts.new.disk) (g.met.R.Disk.reads_as_image c.open_parts.new.disk after_it)))
+    (same_read c.args.rules f.rules h f.history e (g.R.Disk.seen c.in-Ok.rig) c.in-Ok.ensures.rules opened.0 c.in-Ok.ensures.legal
+    (opened.1 (g.R.Disk.seen c.in-Ok.rig) (g.met.R.Disk.reads_as_image c.in-Ok.rig after_it)))
 
 pub returns-in-Ok-clause-whole : goal.returns-in-Ok-clause-whole
 returns-in-Ok-clause-whole g c = λ plain whole.
     let f = c.in-Ok.parts.fold in
     let opened = c.in-Ok.ensures.opened plain whole.0 whole.1.0 whole.1.1.but in
-    let after_it = stays_plain c.open_parts.ensures.kind plain in
+    let after_it = stays_plain c.in-Ok.ensures.kind plain in
     subst (λ (r : RuleSet). StandWhole r (g.R.Disk.seen c.into_book.result.opened)) (sym (c.into_book.ensures.rules ∙ c.in-Ok.ensures.rules))
     (subst (λ (x : g.row.R.Denot). StandWhole c.args.rules (g.R.Disk.seen x)) (sym c.into_book.ensures.opened)
-    (whole_now c.args.rules whole.0 f.history whole.1.0 (g.R.Disk.seen c.open_parts.new.disk) opened.0 c.in-Ok.ensures.legal
-    (opened.1 (g.R.Disk.seen c.open_parts.new.disk) (g.met.R.Disk.reads_as_image c.open_parts.new.disk after_it)) whole.1.1.sealed))
+    (whole_now c.args.rules whole.0 f.history whole.1.0 (g.R.Disk.seen c.in-Ok.rig) opened.0 c.in-Ok.ensures.legal
+    (opened.1 (g.R.Disk.seen c.in-Ok.rig) (g.met.R.Disk.reads_as_image c.in-Ok.rig after_it)) whole.1.1.sealed))

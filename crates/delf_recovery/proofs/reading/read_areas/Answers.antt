@@ -10,6 +10,7 @@ use Rattle.ledger.specs.Ledgers.{state_of}
 use Rattle.delf_book.proofs.Writes.{leaves_joined}
 use Rattle.delf_recovery.specs.Opening.{IsBadAt}
 use Rattle.delf_recovery.specs.Reading.{ShowsFaulty, ReadsVault}
+use Rattle.delf_recovery.proofs.Notes.{noted_there}
 use Rattle.delf_recovery.proofs.Started.{log_now}
 use Rattle.delf_recovery.proofs.Spelled.{reads_stand}
 use Rattle.delf_recovery.proofs.Faults.{journal_never, vault_bad, vault_never}
@@ -65,7 +66,7 @@ returns-in-Ok-read_vault-clause-found g c = λ plain.
 pub returns-in-Ok-read_vault-clause-sized : goal.returns-in-Ok-read_vault-clause-sized
 returns-in-Ok-read_vault-clause-sized g c = λ plain.
     let starts = c.in-Ok-read_vault.ensures.starts (stays_plain c.read_journal.ensures.kind plain) in
-    let now = log_now area.Vault vault_mark c.in-Ok-read_vault.vault.sizes (g.D.Disk.seen c.read_journal.new.disk) (g.D.Disk.seen c.read_vault.new.disk) starts in
+    let now = log_now area.Vault vault_mark c.in-Ok-read_vault.vault.log.sizes (g.D.Disk.seen c.read_journal.new.disk) (g.D.Disk.seen c.read_vault.new.disk) starts in
     ap (map size_of) now.1 ∙ starts.sized
 
 pub returns-in-Ok-read_vault-clause-standing : goal.returns-in-Ok-read_vault-clause-standing
@@ -78,8 +79,13 @@ returns-in-Ok-read_vault-clause-standing g c = λ plain.
     let vault = c.in-Ok-read_vault.ensures.starts now in
     let last = g.D.Disk.seen c.read_vault.new.disk in
     record {
-      journal = subst (IsLog journal_mark) (sym vault.other) (log_now area.Journal journal_mark c.in-Ok.journal.sizes (g.D.Disk.seen c.args.disk.now) (g.D.Disk.seen c.read_journal.new.disk) journal).0;
-      vault = (log_now area.Vault vault_mark c.in-Ok-read_vault.vault.sizes (g.D.Disk.seen c.read_journal.new.disk) last vault).0;
+      journal = subst (IsLog journal_mark) (sym vault.other) (log_now area.Journal journal_mark c.in-Ok.journal.log.sizes (g.D.Disk.seen c.args.disk.now) (g.D.Disk.seen c.read_journal.new.disk) journal).0;
+      vault = (log_now area.Vault vault_mark c.in-Ok-read_vault.vault.log.sizes (g.D.Disk.seen c.read_journal.new.disk) last vault).0;
       payloads = found.payloads;
       stand = (returns-in-Ok-read_vault-clause-crash g c plain f.rules f.history found.payloads found.stand).now last (g.met.D.Disk.reads_as_image c.read_vault.new.disk then);
     }
+
+pub returns-in-Ok-read_vault-clause-journal_noted : goal.returns-in-Ok-read_vault-clause-journal_noted
+returns-in-Ok-read_vault-clause-journal_noted g c = λ plain.
+    let starts = c.in-Ok-read_vault.ensures.starts (stays_plain c.read_journal.ensures.kind plain) in
+    noted_there area.Journal (g.D.Disk.seen c.read_journal.new.disk) (g.D.Disk.seen c.read_vault.new.disk) c.in-Ok.journal.notes.items starts.other (c.in-Ok.ensures.noted plain)

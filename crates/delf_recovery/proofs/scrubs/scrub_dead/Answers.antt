@@ -1,8 +1,8 @@
 use Rattle.std.proofs.Common.{◌∙◌, ap, length, arith}
-use Rattle.delf_disk.proofs.Flags.{stays_plain, same_kinds}
+use Rattle.delf_disk.proofs.Flags.{stays_plain, was_plain, same_kinds}
 use Rattle.ledger.specs.Ledgers.{state_of}
 use Rattle.delf_book.proofs.Writes.{leaves_joined}
-use Rattle.delf_recovery.proofs.DeadPayloads.{zero_further, zero_all}
+use Rattle.delf_recovery.proofs.DeadPayloads.{zero_further, zero_all, noted_further}
 use Rattle.delf_recovery.proofs.scrubs.scrub_dead.Goals as goal
 
 pub returns-in_err-scrub_record-clause-crash : goal.returns-in_err-scrub_record-clause-crash
@@ -10,6 +10,11 @@ returns-in_err-scrub_record-clause-crash g c = λ plain e rests.
     let s = c.loop-i.invariant in
     let so_far = s.leaves plain e rests in
     leaves_joined so_far (c.scrub_record.ensures.crash (stays_plain s.kind plain) e so_far.now)
+
+pub scrub_record-requires-clause-blank : goal.scrub_record-requires-clause-blank
+scrub_record-requires-clause-blank g c = λ blank now.
+    let s = c.loop-i.invariant in
+    s.noted (was_plain s.kind now) c.loop-i.i (c.is_noted.ensures blank)
 
 pub loop-i-preserved : goal.loop-i-preserved
 loop-i-preserved g c =
@@ -27,6 +32,10 @@ loop-i-preserved g c =
           let now = stays_plain s.kind plain in
           zero_further (state_of c.args.fold.now) c.args.area c.loop-i.i (g.D.Disk.seen c.loop-i.disk) (g.D.Disk.seen c.scrub_record.new.disk)
           (s.zero plain) (c.in_ok-scrub_record.ensures.zero now) (c.in_ok-scrub_record.ensures.others now);
+      noted = λ plain.
+          let now = stays_plain s.kind plain in
+          noted_further c.args.area c.loop-i.i c.args.notes.now (g.D.Disk.seen c.loop-i.disk) (g.D.Disk.seen c.scrub_record.new.disk)
+          (s.noted plain) (c.in_ok-scrub_record.ensures.stays_zero now) (c.in_ok-scrub_record.ensures.others now);
       other = λ plain. c.in_ok-scrub_record.ensures.other_area (stays_plain s.kind plain) ∙ s.other plain;
     }
 

@@ -9,7 +9,7 @@ use Rattle.ledger.specs.Ledgers.{state_of}
 use Rattle.delf_book.specs.Reads.{carrier_in}
 use Rattle.delf_book.specs.Writing.{Rests}
 use Rattle.store_laws.specs.Moves.{RestIn}
-use Rattle.delf_recovery.specs.Mending.{IsZero}
+use Rattle.delf_recovery.specs.Mending.{IsZero, AreNoted}
 use Rattle.delf_recovery.proofs.scrubs.scrub_dead.Given as goal
 
 abbrev pub invariant-loop-i : goal.invariant-loop-i
@@ -23,5 +23,6 @@ invariant-loop-i g l = record {
       → Leaves g.D.Disk.moment g.D.Disk.may_leave g.D.Disk.left_since (Rests l.fold.rules l.fold.history e) l.fn.disk l.disk;
   zero : Plain (g.D.Disk.told l.fn.disk) (g.D.Disk.honest l.fn.disk) → (k : ℕ) → k < l.i → (IsLive (state_of l.fold) (carrier_in l.area k) → ⊥)
       → IsZero (carrier_in l.area k) (g.D.Disk.seen l.disk);
+  noted : Plain (g.D.Disk.told l.fn.disk) (g.D.Disk.honest l.fn.disk) → AreNoted l.area (g.D.Disk.seen l.disk) l.notes;
   other : Plain (g.D.Disk.told l.fn.disk) (g.D.Disk.honest l.fn.disk) → rest_of l.area (g.D.Disk.seen l.disk) ≡ rest_of l.area (g.D.Disk.seen l.fn.disk);
 }

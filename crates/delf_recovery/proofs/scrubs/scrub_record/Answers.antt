@@ -32,3 +32,14 @@ returns-clause-others g c =
     (g.D.Disk.may_leave c.args.disk.now) (g.D.Disk.seen c.args.disk.now) (g.D.Disk.seen c.scrub.new.disk) (g.met.D.Disk.reads_as_image c.args.disk.now plain)
     resting.rests (c.requires.stands plain) (scrubs plain)).1)
     c.scrub.ensures.scrubbed c.scrub.ensures.scrubbed
+
+pub returns-clause-stays_zero : goal.returns-clause-stays_zero
+returns-clause-stays_zero g c =
+    let f = c.args.fold.now in
+    let log = c.args.log.now in
+    on_ok c.scrub.result (λ scrubs again plain zeros.
+    let resting = c.requires.rests plain in
+    (scrub_zero f.rules f.history resting.payloads c.args.i c.args.area log.area log.sizes c.requires.area (λ live. false≢true (sym c.if-keeps.false ∙ c.keeps.ensures.1 live))
+    (g.D.Disk.may_leave c.args.disk.now) (g.D.Disk.seen c.args.disk.now) (g.D.Disk.seen c.scrub.new.disk) (g.met.D.Disk.reads_as_image c.args.disk.now plain)
+    resting.rests (c.requires.stands plain) (scrubs plain)).0)
+    c.scrub.ensures.scrubbed c.scrub.ensures.scrubbed

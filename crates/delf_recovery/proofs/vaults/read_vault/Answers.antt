@@ -1,15 +1,46 @@
-use Rattle.std.proofs.Common.{◌≡◌, ◌≤◌, ◌+◌, ℕ, Option, IfNone, false, true, length, refl, sym, subst, arith}
+use Rattle.std.proofs.Common.{rules, ◌∙◌, Bool, List, drop, ◌≡◌, ◌≤◌, ◌+◌, ℕ, Option, IfNone, false, true, length, refl, sym, subst, arith}
+use Rattle.std.proofs.lemmas.List.{take_at}
 use Rattle.delf_disk.specs.declared.area.Area.{Area}
 use Rattle.delf_disk.specs.declared.area.Area.TheVariants as area
+use Rattle.delf_disk.specs.Areas.{Areas}
 use Rattle.delf_disk.specs.Plain.{Plain}
 use Rattle.delf_disk.proofs.Flags.{stays_plain, was_plain}
-use Rattle.gate_log.specs.Logs.{Fronts}
+use Rattle.gate_log.specs.Logs.{Fronts, StandIn}
 use Rattle.store_laws.specs.Stores.{vault_mark}
 use Rattle.ledger.specs.Ledgers.{state_of}
+use Rattle.delf_recovery.specs.Mending.{AreNoted}
 use Rattle.delf_recovery.specs.Reading.{ReadsItems, EndsUnspelled, FaultyVault, WhyFaulty}
+use Rattle.delf_recovery.proofs.Notes.{none_noted, stands_whole}
 use Rattle.delf_recovery.proofs.Started.{fronts_now, start_leaves, leaves_still}
 use Rattle.delf_recovery.proofs.VaultJudged.{item_there, item_gone, has_items, reads_vault, faulty_vault}
 use Rattle.delf_recovery.proofs.vaults.read_vault.Goals as goal
+
+pub returns-in_err-notes-clause-crash : goal.returns-in_err-notes-clause-crash
+returns-in_err-notes-clause-crash g c = λ plain rules h e but.
+    start_leaves rules h e area.Vault (g.D.Disk.seen c.args.disk.now) (c.requires.only plain) but (c.start_area.ensures.any_moment_blank plain) (c.start_area.ensures.any_moment plain)
+
+pub read_items-requires-clause-stands : goal.read_items-requires-clause-stands
+read_items-requires-clause-stands g c = λ whole plain.
+    let front = c.in_ok-front.front in
+    let was = was_plain c.start_area.ensures.kind plain in
+    subst (λ (a : Area). StandIn a front.log.sizes (g.D.Disk.may_leave c.start_area.new.disk)) (sym c.in_ok-front.ensures.area)
+    (stands_whole area.Vault vault_mark front.log.sizes (g.D.Disk.seen c.args.disk.now) (g.D.Disk.seen c.start_area.new.disk) (g.D.Disk.may_leave c.start_area.new.disk)
+    (c.in_ok-front.ensures.starts whole was) (c.in_ok-front.ensures.durable was (c.requires.only was)))
+
+pub read_items-requires-clause-noted : goal.read_items-requires-clause-noted
+read_items-requires-clause-noted g c = λ plain.
+    let it = c.in_ok-front.front.log.area in
+    let seen = g.D.Disk.seen c.start_area.new.disk in
+    subst (λ (l : List Bool). AreNoted it seen l) (sym (c.deref_mut.ensures.value ∙ c.in_ok-notes.ensures)) (none_noted it seen c.count.result)
+
+pub returns-clause-noted : goal.returns-clause-noted
+returns-clause-noted g c = λ plain.
+    let now = stays_plain c.start_area.ensures.kind plain in
+    let long : length c.read_items.new.notes ≡ c.in_ok-notes.notes.len = search rules in
+    subst (λ (l : List Bool). AreNoted area.Vault (g.D.Disk.seen c.read_items.new.disk) l)
+    (sym (take_at c.read_items.new.notes (drop (length c.read_items.new.notes) c.in_ok-notes.notes.items) c.in_ok-notes.notes.len long))
+    (subst (λ (a : Area). AreNoted a (g.D.Disk.seen c.read_items.new.disk) c.read_items.new.notes) c.in_ok-front.ensures.area
+    (subst (λ (x : Areas). AreNoted c.in_ok-front.front.log.area x c.read_items.new.notes) (sym (c.read_items.ensures.seen now)) (c.in_ok-read.ensures.noted now)))
 
 pub read_items-requires-clause-fronts : goal.read_items-requires-clause-fronts
 read_items-requires-clause-fronts g c = λ plain.

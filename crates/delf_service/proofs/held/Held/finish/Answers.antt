@@ -8,15 +8,15 @@ use Rattle.delf_service.proofs.held.Held.finish.Goals as goal
 pub loop-init : goal.loop-init
 loop-init g c = record {
   moment = refl;
-  later = Follows-itself (standing_in g.R.Disk.faults c.args.self.now.book c.args.self.now.moment c.args.self.now.lanes);
+  later = Follows-itself (standing_in g.R.Disk c.args.self.now.book c.args.self.now.moment c.args.self.now.lanes);
   only = λ n. refl;
 }
 
 pub loop-preserved : goal.loop-preserved
 loop-preserved g c =
-    let first = standing_in g.R.Disk.faults c.args.self.now.book c.args.self.now.moment c.args.self.now.lanes in
-    let x = standing_in g.R.Disk.faults c.loop.self.book c.loop.self.moment c.loop.self.lanes in
-    let y = standing_in g.R.Disk.faults c.work-outcome.new.self.book c.work-outcome.new.self.moment c.work-outcome.new.self.lanes in
+    let first = standing_in g.R.Disk c.args.self.now.book c.args.self.now.moment c.args.self.now.lanes in
+    let x = standing_in g.R.Disk c.loop.self.book c.loop.self.moment c.loop.self.lanes in
+    let y = standing_in g.R.Disk c.work-outcome.new.self.book c.work-outcome.new.self.moment c.work-outcome.new.self.lanes in
     let was = c.loop.invariant in
     let steps = c.work-outcome.ensures.steps in
     let follows = steps_follow x y c.args.now (is_moment x.key c.args.now (was.moment ∙ c.requires.moment)) c.work-outcome.result steps in

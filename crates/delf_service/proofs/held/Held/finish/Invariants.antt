@@ -7,7 +7,7 @@ use Rattle.delf_service.proofs.held.Held.finish.Given as goal
 abbrev pub invariant-loop : goal.invariant-loop
 invariant-loop g l = record {
   moment : l.self.moment ≡ l.fn.self.moment;
-  later : Follows (standing_in g.R.Disk.faults l.self.book l.self.moment l.self.lanes) (standing_in g.R.Disk.faults l.fn.self.book l.fn.self.moment l.fn.self.lanes);
+  later : Follows (standing_in g.R.Disk l.self.book l.self.moment l.self.lanes) (standing_in g.R.Disk l.fn.self.book l.fn.self.moment l.fn.self.lanes);
   only : (n : ℕ) → made_by seat_of n l.self.book.history ≡ made_by seat_of n l.fn.self.book.history;
 }
 

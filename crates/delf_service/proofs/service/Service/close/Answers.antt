@@ -7,8 +7,8 @@ use Rattle.delf_service.proofs.service.Service.close.Goals as goal
 pub returns : goal.returns
 returns g c = (
   c.close-book.result.moment,
-  closed_laneless (standing_in g.R.Disk.faults (start_of c.args.self.lock).book (start_of c.args.self.lock).moment (start_of c.args.self.lock).lanes) (view c.args.root) (map (λ s. view s) c.args.seats.items)
-      (standing_in g.R.Disk.faults c.close-book.result.book c.close-book.result.moment c.close-book.result.lanes)
-      (closed_all (λ h. standing_in g.R.Disk.faults h.book h.moment h.lanes) (standing_in g.R.Disk.faults (start_of c.args.self.lock).book (start_of c.args.self.lock).moment (start_of c.args.self.lock).lanes) (view c.args.root)
-      (view c.join_all-root.result) (map (λ s. view s) c.args.seats.items) c.close-book.result c.join_all-root.ensures.joined c.close-book.ensures c.len-len.ensures.legal),
+  closed_laneless (standing_in g.R.Disk (start_of c.args.self.lock).book (start_of c.args.self.lock).moment (start_of c.args.self.lock).lanes) (view c.args.root) (map (λ s. view s) c.args.seats.items)
+      (standing_in g.R.Disk c.close-book.result.book c.close-book.result.moment c.close-book.result.lanes)
+      (closed_all (λ h. standing_in g.R.Disk h.book h.moment h.lanes) (standing_in g.R.Disk (start_of c.args.self.lock).book (start_of c.args.self.lock).moment (start_of c.args.self.lock).lanes) (view c.args.root)
+      (view c.join_all-root.result) (map (λ s. view s) c.args.seats.items) c.close-book.result c.join_all-root.ensures.joined c.close-book.ensures c.len-len.ensures.legal c.standing.ensures.fell),
 )

@@ -13,7 +13,8 @@ returns-clause-run g c =
     record {
       same = c.run_worker.ensures.same.0;
       later = c.run_worker.ensures.later;
-      told = subst (λ (l : List LaneReply). LaneTold w.seen.state c.args.now v.number w.made [] l) (sym none)
-          (told_none c.args.now v.number [] w.seen.state w.made (c.run_worker.ensures.same.1 ∙ c.requires.ready.made));
+      keeps = c.run_worker.ensures.keeps;
+      told = subst (λ (l : List LaneReply). LaneTold w.remembers w.seen.state c.args.now v.number w.made [] l) (sym none)
+          (told_none c.args.now v.number [] w.remembers w.seen.state w.made (c.run_worker.ensures.same.1 ∙ c.requires.ready.made));
       end = λ fed. inl (ap (λ (l : List LaneReply). length l) none);
     }

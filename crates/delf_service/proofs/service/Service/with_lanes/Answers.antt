@@ -19,7 +19,7 @@ pub returns-in-Ok-clause-ok : goal.returns-in-Ok-clause-ok
 returns-in-Ok-clause-ok g c = (
   c.in-Ok.ensures.lock.0,
   record {
-    root_is = c.in-Ok.ensures.root ∙ ap (λ (k : ℕ). rooted (k + 1) (standing_in g.R.Disk.faults c.args.book c.args.moment c.args.lanes)) c.top_seat-first.ensures;
+    root_is = c.in-Ok.ensures.root ∙ ap (λ (k : ℕ). rooted (k + 1) (standing_in g.R.Disk c.args.book c.args.moment c.args.lanes)) c.top_seat-first.ensures;
     legal = c.len-len.ensures.legal;
     fresh = fresh_from c.args.book.rules c.args.book.history;
     low = low_top c.args.book.rules c.args.book.history c.len-len.ensures.legal;
@@ -27,4 +27,4 @@ returns-in-Ok-clause-ok g c = (
 )
 
 pub returns-in-Ok-clause-begun : goal.returns-in-Ok-clause-begun
-returns-in-Ok-clause-begun g c = ap (λ h. standing_in g.R.Disk.faults h.book h.moment h.lanes) c.in-Ok.ensures.lock.1
+returns-in-Ok-clause-begun g c = ap (λ h. standing_in g.R.Disk h.book h.moment h.lanes) c.in-Ok.ensures.lock.1

@@ -1,14 +1,14 @@
-//! The layers under the book over lists: worked examples with every position, refusal, step and status.
+//! The ledger over both graphs: worked examples with every position, refusal, step and status, and calls that are drawn.
 
 ghost use Rattle.std.specs.Prelude.{◌<◌};
 
 use crate::drive::{Answer, Order, answer_to, id};
 use delf_model::{
-    Cause, EdgeNo, EdgeRule, EdgeType, Job, JobLine, JobName, List, Moment, Name, ObjectId,
-    ObjectRule, ObjectType, Refusal, Rules, Schema, Status, TypeNo, What, is_spellable,
+    Cause, EdgeNo, EdgeRule, EdgeType, GraphStore, Job, JobLine, JobName, List, Moment, Name,
+    ObjectId, ObjectRule, ObjectType, Refusal, Rules, Schema, Status, TypeNo, What, is_spellable,
 };
 use ledger::Ledger;
-use live_graph::ListGraph;
+use live_graph::{ListGraph, ShardGraph};
 use std::alloc::Global;
 use std::process::Abort;
 use std::test::Fail;
@@ -87,20 +87,33 @@ fn pages(alloc: Global) -> Result<Schema, Fail> {
     })
 }
 
-fn opened(alloc: Global, schema: &Schema) -> Result<Ledger<ListGraph>, Fail> {
+// The rules of a schema.
+fn rules_of(alloc: Global, schema: &Schema) -> Result<Rules, Fail> {
     if !is_spellable(schema) {
         return Err(Fail::from("no text spells the schema"));
     }
-    let rules = Rules::of(alloc, schema)?;
+    Ok(Rules::of(alloc, schema)?)
+}
+
+// A blank ledger over the graph of the program.
+fn opened(alloc: Global, schema: &Schema) -> Result<Ledger<ShardGraph>, Fail> {
+    let rules = rules_of(alloc, schema)?;
+    let graph = ShardGraph::empty(alloc, &rules)?;
+    Ok(Ledger::new(alloc, rules, graph))
+}
+
+// A blank ledger over the plain graph.
+fn opened_plain(alloc: Global, schema: &Schema) -> Result<Ledger<ListGraph>, Fail> {
+    let rules = rules_of(alloc, schema)?;
     let graph = ListGraph::empty(alloc, &rules)?;
     Ok(Ledger::new(alloc, rules, graph))
 }
 
 // That the order is answered so.
-fn answers(
+fn answers<G: GraphStore>(
     rt: &impl Abort,
     alloc: Global,
-    ledger: &mut Ledger<ListGraph>,
+    ledger: &mut Ledger<G>,
     clock: &mut Moment,
     order: Order,
     wanted: Answer,
@@ -110,19 +123,30 @@ fn answers(
     Ok(())
 }
 
-// That a ledger which is blank at this moment answers each order so.
+// That a ledger answers each order so, from this moment on.
+fn plays_over<G: GraphStore>(
+    rt: &impl Abort,
+    alloc: Global,
+    ledger: &mut Ledger<G>,
+    mut clock: Moment,
+    rows: &[(Order, Answer)],
+) -> Result<(), Fail> {
+    for (order, wanted) in rows {
+        answers(rt, alloc, ledger, &mut clock, *order, *wanted)?;
+    }
+    Ok(())
+}
+
+// That a ledger which is blank at this moment answers each order so, over either graph.
 fn plays(
     rt: &impl Abort,
     alloc: Global,
     schema: &Schema,
-    mut clock: Moment,
+    clock: Moment,
     rows: &[(Order, Answer)],
 ) -> Result<(), Fail> {
-    let mut ledger = opened(alloc, schema)?;
-    for (order, wanted) in rows {
-        answers(rt, alloc, &mut ledger, &mut clock, *order, *wanted)?;
-    }
-    Ok(())
+    plays_over(rt, alloc, &mut opened(alloc, schema)?, clock, rows)?;
+    plays_over(rt, alloc, &mut opened_plain(alloc, schema)?, clock, rows)
 }
 
 fn line(job: u32, name: JobName, root: ObjectId, erased: u32, cut: u32, status: Status) -> Answer {
@@ -604,7 +628,7 @@ const WAVES: u32 = 100;
 fn wave(
     rt: &impl Abort,
     alloc: Global,
-    ledger: &mut Ledger<ListGraph>,
+    ledger: &mut Ledger<ShardGraph>,
     clock: &mut Moment,
     before: u32,
 ) -> Result<(), Fail>
@@ -666,4 +690,127 @@ fn many_users_come_and_go(rt: HostRuntime) -> Result<(), Fail> {
     }
     assert_eq!(rt; ledger.len(), 400 * WAVES);
     Ok(())
+}
+
+// The next of a row of drawn numbers.
+fn draw(seed: u64) -> u64 {
+    seed.wrapping_mul(6_364_136_223_846_793_005)
+        .wrapping_add(1_442_695_040_888_963_407)
+}
+
+// An order about a few objects, drawn by this number.
+fn drawn(seed: u64) -> Order {
+    let a = 1 + (seed >> 20) % 12;
+    let b = 1 + (seed >> 30) % 12;
+    let name = ((seed >> 40) % 40) as u32;
+    match (seed >> 50) % 16 {
+        0 => Order::Create(USER, a, 0),
+        1 => Order::Create(PHOTO, a, 1),
+        2 => Order::Create(ALBUM, a, 2),
+        3 => Order::Create(SESSION, a, 0),
+        4 => Order::Link(OWNS, a, b),
+        5 => Order::Link(LIKES, a, b),
+        6 => Order::Link(HOLDS, a, b),
+        7 => Order::Link(3, a, b),
+        8 => Order::Unlink(HOLDS, a, b, name),
+        9 => Order::Delete(a, name),
+        10 => Order::Restore(name),
+        11 => Order::RestoreExpiry(a),
+        12 => Order::Update(a, 3),
+        13 => Order::Tick(7),
+        _ => Order::Work(2),
+    }
+}
+
+// That the order is answered alike by both ledgers, at one moment.
+fn agree(
+    rt: &impl Abort,
+    alloc: Global,
+    shards: &mut Ledger<ShardGraph>,
+    plain: &mut Ledger<ListGraph>,
+    clock: Moment,
+    order: Order,
+) -> Result<Moment, Fail> {
+    let mut next = clock;
+    let answer = answer_to(alloc, shards, &mut next, order)?;
+    let mut also = clock;
+    answers(rt, alloc, plain, &mut also, order, answer)?;
+    Ok(next)
+}
+
+// That both ledgers have the same objects.
+fn same_objects(
+    rt: &impl Abort,
+    alloc: Global,
+    shards: &Ledger<ShardGraph>,
+    plain: &Ledger<ListGraph>,
+) -> Result<(), Fail> {
+    let some = shards.graph().objects(alloc)?;
+    let others = plain.graph().objects(alloc)?;
+    assert!(rt; some == others);
+    Ok(())
+}
+
+// That both ledgers have the same edges.
+fn same_edges(
+    rt: &impl Abort,
+    alloc: Global,
+    shards: &Ledger<ShardGraph>,
+    plain: &Ledger<ListGraph>,
+) -> Result<(), Fail> {
+    let some = shards.graph().edges(alloc)?;
+    let others = plain.graph().edges(alloc)?;
+    assert!(rt; some == others);
+    Ok(())
+}
+
+// That many orders that are drawn are answered alike.
+fn play_drawn(
+    rt: &impl Abort,
+    alloc: Global,
+    shards: &mut Ledger<ShardGraph>,
+    plain: &mut Ledger<ListGraph>,
+) -> Result<(), Fail> {
+    let mut clock = 0;
+    let mut seed = 12;
+    for _ in 0..5_000 {
+        seed = draw(seed);
+        clock = agree(rt, alloc, shards, plain, clock, drawn(seed))?;
+    }
+    Ok(())
+}
+
+// That both ledgers have the same rows.
+fn same_rows(
+    rt: &impl Abort,
+    alloc: Global,
+    shards: &Ledger<ShardGraph>,
+    plain: &Ledger<ListGraph>,
+) -> Result<(), Fail> {
+    assert!(rt; shards.len() > 100);
+    same_objects(rt, alloc, shards, plain)?;
+    same_edges(rt, alloc, shards, plain)
+}
+
+// That drawn orders are answered alike, and leave the same rows.
+fn agree_on_drawn(
+    rt: &impl Abort,
+    alloc: Global,
+    shards: &mut Ledger<ShardGraph>,
+    plain: &mut Ledger<ListGraph>,
+) -> Result<(), Fail> {
+    play_drawn(rt, alloc, shards, plain)?;
+    same_rows(rt, alloc, shards, plain)
+}
+
+// The same over two blank ledgers.
+fn agree_over(rt: &impl Abort, alloc: Global, schema: &Schema) -> Result<(), Fail> {
+    let mut shards = opened(alloc, schema)?;
+    agree_on_drawn(rt, alloc, &mut shards, &mut opened_plain(alloc, schema)?)
+}
+
+#[test]
+fn both_graphs_agree_on_drawn_calls(rt: HostRuntime) -> Result<(), Fail> {
+    let schema = photos(rt.alloc())?;
+    agree_over(&rt, rt.alloc(), &schema)
 }

@@ -1,0 +1,6 @@
+use Rattle.std.specs.Prelude.{ℕ, Bool}
+use Rattle.std.proofs.Common.{ap}
+use Rattle.graph_tests.proofs.orders.opened_plain.Goals as goal
+
+pub new-requires-clause-counts : goal.new-requires-clause-counts
+new-requires-clause-counts c = λ edge. ap (λ (f : ℕ → Bool). f edge) c.in_ok-graph.ensures.counts

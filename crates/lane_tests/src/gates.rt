@@ -1,0 +1,90 @@
+//! Gates that hold lanes and workers, each for so many loads of a flag at most.
+
+use delf_service::Gate;
+use std::hint::spin_loop;
+use std::sync::atomic::{AtomicU64, Ordering};
+
+// Whether the word is seen to reach this number.
+fn reaches(word: &AtomicU64, least: u64) -> bool {
+    for _ in 0..1_000_000_000u32 {
+        if word.load(Ordering::SeqCst) >= least {
+            return true;
+        }
+    }
+    false
+}
+
+/// A gate that holds its first calls, so many, until all of them have begun.
+#[derive(Drop)]
+pub(crate) struct Meeting {
+    many: u64,
+    begun: AtomicU64,
+    met: AtomicU64,
+}
+
+impl Meeting {
+    pub(crate) fn of(many: u64) -> Meeting {
+        Meeting {
+            many,
+            begun: AtomicU64::new(0),
+            met: AtomicU64::new(0),
+        }
+    }
+
+    /// Whether all of the first calls saw that all had begun.
+    pub(crate) fn was_held(&self) -> bool {
+        self.met.load(Ordering::SeqCst) == self.many
+    }
+}
+
+impl Gate for Meeting {
+    fn after(&self, _position: u32) {
+        if self.begun.fetch_add(1, Ordering::SeqCst) < self.many
+            && reaches(&self.begun, self.many)
+        {
+            self.met.fetch_add(1, Ordering::SeqCst);
+        }
+    }
+}
+
+/// A gate over a history that a lane begins with two entries, of which the second gives the workers a step. It leaves the
+/// workers time to find none before, and then holds the lane until it was told of a step.
+#[derive(Drop)]
+pub(crate) struct Watch {
+    stepped: AtomicU64,
+    seen: AtomicU64,
+}
+
+impl Watch {
+    pub(crate) fn new() -> Watch {
+        Watch {
+            stepped: AtomicU64::new(0),
+            seen: AtomicU64::new(0),
+        }
+    }
+
+    /// Whether a step was made while the lane was held.
+    pub(crate) fn saw_a_step(&self) -> bool {
+        self.seen.load(Ordering::SeqCst) == 1
+    }
+}
+
+impl Gate for Watch {
+    fn after(&self, position: u32) {
+        match position {
+            0 => {
+                for _ in 0..2_000_000u32 {
+                    spin_loop();
+                }
+            }
+            1 => {
+                if reaches(&self.stepped, 1) {
+                    self.seen.fetch_add(1, Ordering::SeqCst);
+                }
+            }
+            _ => {
+                self.stepped.fetch_add(1, Ordering::SeqCst);
+            }
+        }
+    }
+}

@@ -1,0 +1,21 @@
+//! Tests of a book that many share: lanes and workers on threads, over a disk in memory and over files. Nothing else stands here.
+#![tactic(auto)]
+
+#[cfg(test)]
+mod accounts;
+#[cfg(test)]
+mod blocks;
+#[cfg(test)]
+mod files;
+#[cfg(test)]
+mod gates;
+#[cfg(test)]
+mod many;
+#[cfg(test)]
+mod orders;
+#[cfg(test)]
+mod restores;
+#[cfg(test)]
+mod stores;
+#[cfg(test)]
+mod together;
