@@ -12,6 +12,8 @@ mod loads;
 #[cfg(test)]
 mod openings;
 #[cfg(test)]
+mod reads;
+#[cfg(test)]
 mod rows;
 #[cfg(test)]
 mod runs;
