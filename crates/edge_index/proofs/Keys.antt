@@ -6,12 +6,15 @@ use Rattle.std.specs.Ordering.{is_eq}
 use Rattle.delf_model.specs.declared.rows.EdgeKey.{EdgeKey}
 use Rattle.delf_model.specs.Graph.{same_key, key_before}
 use Rattle.edge_index.specs.declared.ends.EndKey.{EndKey}
-use Rattle.edge_index.specs.Keys.{edge_cmp}
+use Rattle.edge_index.specs.Keys.{edge_cmp, edge_eq}
 use Rattle.delf_model.proofs.Graphs.{same_key_is}
 use Rattle.edge_index.specs.Ends.{end_cmp, at_source, at_target, TellsApart}
 
 pub edge_equal : (a b : EdgeKey) → is_eq (edge_cmp a b) ≡ same_key a b
 edge_equal a b = grind (arith, nat_tests, common_steps)
+
+pub edge_same : (a b : EdgeKey) → is_eq (edge_cmp a b) ≡ edge_eq a b
+edge_same a b = grind (arith, nat_tests, common_steps)
 
 pub edge_less : (a b : EdgeKey) → edge_cmp a b ≡ Less → key_before a b ≡ true
 edge_less a b h = grind (arith, nat_tests, common_steps)

@@ -1,6 +1,7 @@
 pub mod Keys
 pub mod Rises
 pub mod Rows
+pub mod ByKey
 pub mod Near
 pub mod Ranges
 pub mod Copies

@@ -1,5 +1,6 @@
 pub mod Keys
 pub mod Links
+pub mod InsideLinks
 pub mod Ends
 pub mod Refs
 pub mod IndexedEdges

@@ -1,16 +1,29 @@
 -- The edge rows that a table of links makes.
-use Rattle.std.specs.Prelude.{Bool, List, Option, Some, None, is_some}
+use Rattle.std.specs.Prelude.{Bool, List, [], ◌∷◌, Option, Some, None, is_some}
 use Rattle.std.specs.List.{filter_map}
 use Rattle.std.specs.Map.{lookup}
-use Rattle.std.specs.BTreeMap.{is_at}
+use Rattle.std.specs.BTreeMap.{is_at, insert_entry}
 use Rattle.delf_model.specs.declared.rows.EdgeKey.{EdgeKey}
 use Rattle.delf_model.specs.declared.rows.EdgeRow.{EdgeRow}
 use Rattle.edge_index.specs.declared.links.Link.{Link}
-use Rattle.edge_index.specs.Keys.{edge_cmp}
+use Rattle.edge_index.specs.Keys.{edge_cmp, edge_eq}
 
 -- a key with what stands there
 abbrev pub Entry : Type 0
 Entry = EdgeKey × Option Link
+
+-- what a table of links is seen as: its entries by rising key
+pub record LinkTable : Type 0 where
+  pub entries : List Entry
+
+-- what stands at a key among entries in no order
+abbrev pub found : List Entry → EdgeKey → Option (Option Link)
+found entries key = lookup (edge_eq key) entries
+
+-- entries by rising key, and of two at one key the first
+abbrev pub by_key : List Entry → List Entry
+by_key [] = []
+by_key (e ∷ es) = insert_entry edge_cmp (by_key es) e.0 e.1
 
 -- the row of this key with this link
 abbrev pub row_of : EdgeKey → Option Link → Option EdgeRow

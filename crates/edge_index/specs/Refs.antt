@@ -1,16 +1,14 @@
 -- How many references a table keeps for each target.
-use Rattle.std.specs.Prelude.{◌≡◌, ℕ, Bool, true, false, List, Option, Some, None, count_by, is_some}
+use Rattle.std.specs.Prelude.{◌≡◌, ℕ, Bool, true, false, nat_eq, List, Option, Some, None, count_by, is_some}
 use Rattle.std.specs.Option.{unwrap_or}
 use Rattle.std.specs.Map.{lookup}
-use Rattle.std.specs.BTreeMap.{is_at}
-use Rattle.std.specs.Ordering.{nat_cmp}
 use Rattle.delf_model.specs.declared.rows.EdgeKey.{EdgeKey}
 use Rattle.delf_model.specs.declared.rows.EdgeRow.{EdgeRow}
 use Rattle.delf_model.specs.Store.{is_counted}
 use Rattle.edge_index.specs.Links.{Entry, rows_of, has_room}
 
 abbrev pub refs_at : List (ℕ × ℕ) → ℕ → Option ℕ
-refs_at refs id = lookup (is_at (nat_cmp id)) refs
+refs_at refs id = lookup (nat_eq id) refs
 
 abbrev pub refs_of : List (ℕ × ℕ) → ℕ → ℕ
 refs_of refs id = unwrap_or (refs_at refs id) 0

@@ -7,15 +7,15 @@ ghost use Rattle.delf_model.specs.Store.{is_counted};
 ghost use Rattle.delf_model.specs.declared.rows.EdgeKey.{EdgeKey};
 
 use crate::ends::row_near;
-use crate::links::{row_at, row_with};
 use crate::refs::refs_to;
 use crate::tables::Tables;
 use delf_model::{EdgeKey, EdgeRow, ObjectId, Rules};
 use std::alloc::{AllocError, Global};
 use std::marker::Model;
 
-/// The edges of a graph, at most 4,294,967,295, by rising key. Each call but `edges` takes a number of steps that grows
-/// with the logarithm of how many there are, and the row at a place of an end also with the place.
+/// The edges of a graph, at most 4,294,967,295, by rising key. A look-up by key and a count take a few steps, however many
+/// there are; what asks an order of an end takes a number that grows with their logarithm, and the row at a place also with
+/// the place. `ready_edge` goes over all keys where its table has to grow, and `edges` sorts them.
 #[derive(Drop)]
 pub struct EdgeIndex {
     tables: Tables,
@@ -50,7 +50,7 @@ impl EdgeIndex {
     pub fn edge(&self, key: EdgeKey) -> Option<EdgeRow>
         ensures { result ≡ find (has_key key) self.now.edges }
     {
-        row_at(&self.tables.links, &key)
+        self.tables.links.row(&key)
     }
 
     /// The edge out of this object at this place, from 0, by edge type and target.
@@ -74,15 +74,11 @@ impl EdgeIndex {
         refs_to(&self.tables.refs, id)
     }
 
-    /// All edge rows by rising key; the only error is want of memory.
+    /// All edge rows by rising key, over a copy of the table; the only error is want of memory.
     pub fn edges(&self, alloc: Global) -> Result<Vec<EdgeRow>, AllocError>
         ensures { IfOk result (λ rows. rows.items ≡ self.now.edges) }
     {
-        self.tables
-            .links
-            .iter()
-            .filter_map(|(key, link)| row_with(key, link))
-            .collect(alloc)
+        self.tables.links.rows(alloc)
     }
 
     /// Makes room for an edge with this key, so that it can be put without memory. The only error is want of memory.

@@ -6,7 +6,7 @@ ghost use Rattle.edge_index.specs.declared.ends.EndKey.{EndKey};
 ghost use Rattle.edge_index.specs.Links.{Entry};
 ghost use Rattle.edge_index.specs.Ends.{at_source, at_target, place_of, is_near, has_near, rows_near, TellsApart, IsOrderOf};
 
-use crate::links::{Links, row_at};
+use crate::links::Links;
 use delf_model::{EdgeKey, EdgeRow, ObjectId};
 use std::alloc::AllocError;
 use std::collections::BTreeMap;
@@ -70,7 +70,7 @@ pub fn row_near(links: &Links, order: &EndOrder, id: ObjectId, i: u32) -> Option
     ensures { result ≡ slice_get (rows_near links.now.entries order.now.entries id) i }
 {
     places_near(order, id)
-        .filter_map(|(_, key)| row_at(links, key))
+        .filter_map(|(_, key)| links.row(key))
         .nth(i as usize)
 }
 

@@ -5,11 +5,12 @@ ghost use Rattle.edge_index.specs.Ends.{has_near};
 
 use crate::ends::{EndOrder, has_end};
 use delf_model::ObjectId;
+use id_hash::IdHash;
+use indexmap::IndexMap;
 use std::alloc::AllocError;
-use std::collections::BTreeMap;
 
 /// How many edges of refcount types lead to each target; 0 where none is kept.
-pub type Refs = BTreeMap<ObjectId, u32>;
+pub type Refs = IndexMap<ObjectId, u32, IdHash>;
 
 /// The number of references to this target.
 pub fn refs_to(refs: &Refs, id: ObjectId) -> u32
@@ -81,6 +82,6 @@ pub fn forget(refs: &mut Refs, inward: &EndOrder, id: ObjectId)
     ensures stay { (other : ℕ) → has_near inward.now.entries other ≡ true → is_some (refs_at refs.new.entries other) ≡ is_some (refs_at refs.old.entries other) }
 {
     if !has_end(inward, id) {
-        refs.remove(&id);
+        refs.swap_remove(&id);
     }
 }

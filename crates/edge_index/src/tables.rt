@@ -5,10 +5,12 @@ ghost use Rattle.delf_model.specs.Graph.{same_key, has_key, put_edge, is_other_e
 ghost use Rattle.edge_index.specs.Links.{has_room};
 
 use crate::ends::{EndOrder, add_place, source_end, target_end};
-use crate::links::{Links, put_link, row_at};
+use crate::links::Links;
 use crate::refs::{Refs, count_down, count_up, forget, ready_ref};
 use crate::shapes::{is_counting, is_row_counting, shapes_of};
 use delf_model::{EdgeKey, EdgeRow, EdgeShape, Rules};
+use id_hash::IdHash;
+use indexmap::IndexMap;
 use std::alloc::{AllocError, Global};
 use std::collections::BTreeMap;
 
@@ -38,10 +40,10 @@ impl Tables {
     {
         Ok(Tables {
             shapes: shapes_of(alloc, rules)?,
-            links: BTreeMap::new(alloc),
+            links: Links::empty(alloc),
             outward: BTreeMap::new(alloc),
             inward: BTreeMap::new(alloc),
-            refs: BTreeMap::new(alloc),
+            refs: IndexMap::with_hasher(alloc, IdHash::new()),
         })
     }
 
@@ -54,7 +56,7 @@ impl Tables {
         ensures ready { OnOk result (has_room self.new.links.entries key ≡ true) }
         ensures stay { (other : EdgeKey) → has_room self.old.links.entries other ≡ true → has_room self.new.links.entries other ≡ true }
     {
-        if self.links.contains_key(&key) {
+        if self.links.has(&key) {
             return Ok(());
         }
         if let Err(error) = self.add_places(key) {
@@ -80,7 +82,7 @@ impl Tables {
         add_place(&mut self.outward, source_end(&key), key)?;
         add_place(&mut self.inward, target_end(&key), key)?;
         ready_ref(&mut self.refs, key.to)?;
-        self.links.insert(key, None)?;
+        self.links.ready(key)?;
         Ok(())
     }
 
@@ -95,7 +97,7 @@ impl Tables {
         ensures shapes { self.new.shapes.items ≡ self.old.shapes.items }
     {
         let counts = is_counting(&self.shapes, row.key.edge);
-        put_link(&mut self.links, row);
+        self.links.put(row);
         count_up(&mut self.refs, row.key.to, counts);
     }
 
@@ -107,9 +109,8 @@ impl Tables {
         ensures rows { rows self.new ≡ filter (is_other_edge key.now) (rows self.old) }
         ensures shapes { self.new.shapes.items ≡ self.old.shapes.items }
     {
-        let row = row_at(&self.links, key);
+        let row = self.links.take(key);
         let counts = is_row_counting(&self.shapes, &row);
-        self.links.remove(key);
         self.outward.remove(&source_end(key));
         self.inward.remove(&target_end(key));
         count_down(&mut self.refs, key.to, counts);

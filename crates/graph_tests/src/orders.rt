@@ -4,11 +4,12 @@ ghost use Rattle.std.specs.Prelude.{◌<◌};
 
 use crate::drive::{Answer, Order, answer_to, id};
 use delf_model::{
-    Cause, EdgeNo, EdgeRule, EdgeType, GraphStore, Job, JobLine, JobName, List, Moment, Name,
-    ObjectId, ObjectRule, ObjectType, Refusal, Rules, Schema, Status, TypeNo, What, is_spellable,
+    Cause, EdgeNo, GraphStore, Job, JobLine, JobName, Moment, ObjectId, ObjectRule, Refusal, Rules,
+    Status, TypeNo, What,
 };
 use ledger::Ledger;
 use live_graph::{ListGraph, ShardGraph};
+use schema_lang::parse_schema;
 use std::alloc::Global;
 use std::process::Abort;
 use std::test::Fail;
@@ -31,79 +32,28 @@ const PAGE: u8 = 0;
 
 const REFS: u8 = 0;
 
-fn object(alloc: Global, name: &[u8], rule: ObjectRule) -> Result<ObjectType, Fail> {
-    Ok(ObjectType {
-        name: Name::of(alloc, name)?,
-        rule,
-        line: 0,
-    })
-}
-
-fn edge(
-    alloc: Global,
-    name: &[u8],
-    from: &[u8],
-    to: &[u8],
-    rule: EdgeRule,
-) -> Result<EdgeType, Fail> {
-    Ok(EdgeType {
-        name: Name::of(alloc, name)?,
-        from: Name::of(alloc, from)?,
-        to: Name::of(alloc, to)?,
-        rule,
-        line: 0,
-    })
-}
-
 // Users own photos and sessions, and like photos; albums hold photos.
-fn photos(alloc: Global) -> Result<Schema, Fail> {
-    let mut objects = List::new(alloc);
-    objects.push(object(alloc, b"user", ObjectRule::Directly)?)?;
-    objects.push(object(alloc, b"photo", ObjectRule::ByAny)?)?;
-    objects.push(object(alloc, b"album", ObjectRule::Directly)?)?;
-    objects.push(object(alloc, b"session", ObjectRule::ShortTtl(60))?)?;
-    let mut edges = List::new(alloc);
-    edges.push(edge(alloc, b"owns", b"user", b"photo", EdgeRule::Deep)?)?;
-    edges.push(edge(alloc, b"likes", b"user", b"photo", EdgeRule::Shallow)?)?;
-    edges.push(edge(alloc, b"holds", b"album", b"photo", EdgeRule::Refcount)?)?;
-    edges.push(edge(alloc, b"uses", b"user", b"session", EdgeRule::Deep)?)?;
-    Ok(Schema {
-        window: 100,
-        objects,
-        edges,
-    })
-}
+const PHOTOS: &[u8] =
+    b"schema 1\nwindow 100\nobject user directly\nobject photo by_any\nobject album directly\nobject session short_ttl 60\nedge owns user photo deep\nedge likes user photo shallow\nedge holds album photo refcount\nedge uses user session deep\n";
 
 // Pages refer to pages.
-fn pages(alloc: Global) -> Result<Schema, Fail> {
-    let mut objects = List::new(alloc);
-    objects.push(object(alloc, b"page", ObjectRule::Directly)?)?;
-    let mut edges = List::new(alloc);
-    edges.push(edge(alloc, b"refs", b"page", b"page", EdgeRule::Refcount)?)?;
-    Ok(Schema {
-        window: 0,
-        objects,
-        edges,
-    })
-}
+const PAGES: &[u8] = b"schema 1\nwindow 0\nobject page directly\nedge refs page page refcount\n";
 
 // The rules of a schema.
-fn rules_of(alloc: Global, schema: &Schema) -> Result<Rules, Fail> {
-    if !is_spellable(schema) {
-        return Err(Fail::from("no text spells the schema"));
-    }
-    Ok(Rules::of(alloc, schema)?)
+fn rules_of(alloc: Global, schema: &[u8]) -> Result<Rules, Fail> {
+    let schema = parse_schema(alloc, schema)?;
+    Ok(Rules::of(alloc, &schema)?)
 }
 
 // A blank ledger over the graph of the program.
-fn opened(alloc: Global, schema: &Schema) -> Result<Ledger<ShardGraph>, Fail> {
+fn opened(alloc: Global, schema: &[u8]) -> Result<Ledger<ShardGraph>, Fail> {
     let rules = rules_of(alloc, schema)?;
     let graph = ShardGraph::empty(alloc, &rules)?;
     Ok(Ledger::new(alloc, rules, graph))
 }
 
 // A blank ledger over the plain graph.
-fn opened_plain(alloc: Global, schema: &Schema) -> Result<Ledger<ListGraph>, Fail> {
+fn opened_plain(alloc: Global, schema: &[u8]) -> Result<Ledger<ListGraph>, Fail> {
     let rules = rules_of(alloc, schema)?;
     let graph = ListGraph::empty(alloc, &rules)?;
     Ok(Ledger::new(alloc, rules, graph))
@@ -137,16 +87,40 @@ fn plays_over<G: GraphStore>(
     Ok(())
 }
 
+// The same of a blank ledger over the graph of the program.
+fn plays_over_shards(
+    rt: &impl Abort,
+    alloc: Global,
+    schema: &[u8],
+    clock: Moment,
+    rows: &[(Order, Answer)],
+) -> Result<(), Fail> {
+    let mut ledger = opened(alloc, schema)?;
+    plays_over(rt, alloc, &mut ledger, clock, rows)
+}
+
+// The same of a blank ledger over the plain graph.
+fn plays_over_lists(
+    rt: &impl Abort,
+    alloc: Global,
+    schema: &[u8],
+    clock: Moment,
+    rows: &[(Order, Answer)],
+) -> Result<(), Fail> {
+    let mut ledger = opened_plain(alloc, schema)?;
+    plays_over(rt, alloc, &mut ledger, clock, rows)
+}
+
 // That a ledger which is blank at this moment answers each order so, over either graph.
 fn plays(
     rt: &impl Abort,
     alloc: Global,
-    schema: &Schema,
+    schema: &[u8],
     clock: Moment,
     rows: &[(Order, Answer)],
 ) -> Result<(), Fail> {
-    plays_over(rt, alloc, &mut opened(alloc, schema)?, clock, rows)?;
-    plays_over(rt, alloc, &mut opened_plain(alloc, schema)?, clock, rows)
+    plays_over_shards(rt, alloc, schema, clock, rows)?;
+    plays_over_lists(rt, alloc, schema, clock, rows)
 }
 
 fn line(job: u32, name: JobName, root: ObjectId, erased: u32, cut: u32, status: Status) -> Answer {
@@ -186,7 +160,7 @@ fn a_deletion_takes_what_was_owned_and_is_put_back(rt: HostRuntime) -> Result<()
     plays(
         &rt,
         rt.alloc(),
-        &photos(rt.alloc())?,
+        PHOTOS,
         0,
         &[
             (Order::Create(USER, 1, 1), Answer::At(0)),
@@ -215,7 +189,7 @@ fn what_was_made_since_is_kept(rt: HostRuntime) -> Result<(), Fail> {
     plays(
         &rt,
         rt.alloc(),
-        &photos(rt.alloc())?,
+        PHOTOS,
         0,
         &[
             (Order::Create(USER, 1, 1), Answer::At(0)),
@@ -258,7 +232,7 @@ fn a_photo_goes_with_its_last_album(rt: HostRuntime) -> Result<(), Fail> {
     plays(
         &rt,
         rt.alloc(),
-        &photos(rt.alloc())?,
+        PHOTOS,
         0,
         &[
             (Order::Create(ALBUM, 5, 0), Answer::At(0)),
@@ -284,7 +258,7 @@ fn an_owner_takes_what_an_album_holds(rt: HostRuntime) -> Result<(), Fail> {
     plays(
         &rt,
         rt.alloc(),
-        &photos(rt.alloc())?,
+        PHOTOS,
         0,
         &[
             (Order::Create(USER, 1, 0), Answer::At(0)),
@@ -321,7 +295,7 @@ fn two_jobs_meet(rt: HostRuntime) -> Result<(), Fail> {
     plays(
         &rt,
         rt.alloc(),
-        &photos(rt.alloc())?,
+        PHOTOS,
         0,
         &[
             (Order::Create(USER, 1, 0), Answer::At(0)),
@@ -414,7 +388,7 @@ fn refusals_come_in_their_order(rt: HostRuntime) -> Result<(), Fail> {
     plays(
         &rt,
         rt.alloc(),
-        &photos(rt.alloc())?,
+        PHOTOS,
         0,
         &[
             (Order::Create(USER, 1, 1), Answer::At(0)),
@@ -470,11 +444,10 @@ fn refusals_come_in_their_order(rt: HostRuntime) -> Result<(), Fail> {
 
 #[test]
 fn a_window_ends(rt: HostRuntime) -> Result<(), Fail> {
-    let schema = photos(rt.alloc())?;
     plays(
         &rt,
         rt.alloc(),
-        &schema,
+        PHOTOS,
         0,
         &[
             (Order::Create(USER, 1, 1), Answer::At(0)),
@@ -490,7 +463,7 @@ fn a_window_ends(rt: HostRuntime) -> Result<(), Fail> {
     plays(
         &rt,
         rt.alloc(),
-        &schema,
+        PHOTOS,
         0,
         &[
             (Order::Create(USER, 1, 1), Answer::At(0)),
@@ -519,7 +492,7 @@ fn a_restore_waits_and_is_made_once(rt: HostRuntime) -> Result<(), Fail> {
     plays(
         &rt,
         rt.alloc(),
-        &photos(rt.alloc())?,
+        PHOTOS,
         0,
         &[
             (Order::Create(USER, 1, 1), Answer::At(0)),
@@ -561,11 +534,18 @@ fn a_restore_waits_and_is_made_once(rt: HostRuntime) -> Result<(), Fail> {
 #[test]
 fn a_session_expires(rt: HostRuntime) -> Result<(), Fail> {
     let seven = id(7)?;
-    let name = JobName::Expiry(seven);
+    let restored = Status::Restored { put: 1, listed: 0 };
+    let first = line(1, JobName::Expiry(seven), seven, 1, 0, restored);
+    let done = Status::Done {
+        erased: 1,
+        cut: 0,
+        last: 65,
+    };
+    let second = line(5, JobName::Expiry(seven), seven, 1, 0, done);
     plays(
         &rt,
         rt.alloc(),
-        &photos(rt.alloc())?,
+        PHOTOS,
         5,
         &[
             (Order::Create(SESSION, 7, 1), Answer::At(0)),
@@ -575,25 +555,8 @@ fn a_session_expires(rt: HostRuntime) -> Result<(), Fail> {
             (Order::Work(10), Answer::Idle(2)),
             (Order::RestoreExpiry(7), Answer::At(3)),
             (Order::Work(10), Answer::Idle(3)),
-            (
-                Order::Line(0),
-                line(1, name, seven, 1, 0, Status::Restored { put: 1, listed: 0 }),
-            ),
-            (
-                Order::Line(1),
-                line(
-                    5,
-                    name,
-                    seven,
-                    1,
-                    0,
-                    Status::Done {
-                        erased: 1,
-                        cut: 0,
-                        last: 65,
-                    },
-                ),
-            ),
+            (Order::Line(0), first),
+            (Order::Line(1), second),
             (Order::Line(2), Answer::Nothing),
         ],
     )
@@ -604,7 +567,7 @@ fn a_page_that_refers_to_itself_is_held_by_that(rt: HostRuntime) -> Result<(), F
     plays(
         &rt,
         rt.alloc(),
-        &pages(rt.alloc())?,
+        PAGES,
         0,
         &[
             (Order::Create(PAGE, 1, 0), Answer::At(0)),
@@ -666,29 +629,37 @@ fn wave(
     )
 }
 
-#[test]
-fn many_users_come_and_go(rt: HostRuntime) -> Result<(), Fail> {
-    let alloc = rt.alloc();
-    let mut ledger = opened(alloc, &photos(alloc)?)?;
+// What many users leave: each job is purged once the window is over.
+const PURGED: [(Order, Answer); 6] = [
+    (Order::Tick(100), Answer::Ticked),
+    (Order::Work(1_000_000), Answer::Idle(0)),
+    (Order::Tick(1), Answer::Ticked),
+    (Order::Work(1_000_000), Answer::Idle(100 * WAVES)),
+    (
+        Order::Status(100 * WAVES - 1),
+        Answer::Status(Status::Purged),
+    ),
+    (Order::Entry(400 * WAVES), Answer::Nothing),
+];
+
+// That many users come and go over a blank ledger.
+fn come_and_go(
+    rt: &impl Abort,
+    alloc: Global,
+    ledger: &mut Ledger<ShardGraph>,
+) -> Result<(), Fail> {
     let mut clock = 0;
     for before in 0..WAVES {
-        wave(&rt, alloc, &mut ledger, &mut clock, before)?;
+        wave(rt, alloc, ledger, &mut clock, before)?;
     }
-    // Each job is purged once the window is over.
-    for (order, wanted) in [
-        (Order::Tick(100), Answer::Ticked),
-        (Order::Work(1_000_000), Answer::Idle(0)),
-        (Order::Tick(1), Answer::Ticked),
-        (Order::Work(1_000_000), Answer::Idle(100 * WAVES)),
-        (
-            Order::Status(100 * WAVES - 1),
-            Answer::Status(Status::Purged),
-        ),
-        (Order::Entry(400 * WAVES), Answer::Nothing),
-    ] {
-        answers(&rt, alloc, &mut ledger, &mut clock, order, wanted)?;
-    }
-    assert_eq!(rt; ledger.len(), 400 * WAVES);
+    plays_over(rt, alloc, ledger, clock, &PURGED)
+}
+
+#[test]
+fn many_users_come_and_go(rt: HostRuntime) -> Result<(), Fail> {
+    let mut ledger = opened(rt.alloc(), PHOTOS)?;
+    come_and_go(&rt, rt.alloc(), &mut ledger)?;
+    assert!(rt; ledger.len() == 400 * WAVES);
     Ok(())
 }
 
@@ -803,14 +774,14 @@ fn agree_on_drawn(
     same_rows(rt, alloc, shards, plain)
 }
 
-// The same over two blank ledgers.
-fn agree_over(rt: &impl Abort, alloc: Global, schema: &Schema) -> Result<(), Fail> {
-    let mut shards = opened(alloc, schema)?;
-    agree_on_drawn(rt, alloc, &mut shards, &mut opened_plain(alloc, schema)?)
+// The same beside a blank ledger over the plain graph.
+fn agree_over(rt: &impl Abort, alloc: Global, shards: &mut Ledger<ShardGraph>) -> Result<(), Fail> {
+    let mut plain = opened_plain(alloc, PHOTOS)?;
+    agree_on_drawn(rt, alloc, shards, &mut plain)
 }
 
 #[test]
 fn both_graphs_agree_on_drawn_calls(rt: HostRuntime) -> Result<(), Fail> {
-    let schema = photos(rt.alloc())?;
-    agree_over(&rt, rt.alloc(), &schema)
+    let mut shards = opened(rt.alloc(), PHOTOS)?;
+    agree_over(&rt, rt.alloc(), &mut shards)
 }

@@ -5,4 +5,5 @@ pub mod Parts
 pub mod Halves
 pub mod Moments
 pub mod Leasts
-pub mod Laws
+pub mod ById
+pub mod Expiring

@@ -1,12 +1,12 @@
--- What the shards of a graph's objects stand for: the rows by rising id, and which ids were made ready.
-use Rattle.std.specs.Prelude.{ℕ, Bool, List}
+-- What the objects of a graph stand for: the rows by rising id, and which ids were made ready.
+use Rattle.std.specs.Prelude.{ℕ, Bool, ◌&&◌, List, nat_lt}
 use Rattle.delf_model.specs.declared.rows.ObjectRow.{ObjectRow}
 use Rattle.object_shards.specs.declared.object_shards.ObjectShards.{ObjectShards}
-use Rattle.object_shards.specs.Shards.{rows_of, ready_in}
+use Rattle.object_shards.specs.DueRows.{is_ready_for}
 
 abbrev pub objects_of : ObjectShards → List ObjectRow
-objects_of s = rows_of s.shards.items
+objects_of s = s.table.rows
 
 -- whether room was made for an object with this id
 abbrev pub is_ready : ObjectShards → ℕ → Bool
-is_ready s id = ready_in id s.shards.items
+is_ready s id = nat_lt 0 s.table.room && is_ready_for s.dues id

@@ -20,3 +20,7 @@ least_of (row ∷ rows) = lesser_due row.due (least_of rows)
 abbrev pub ids_within : ℕ → ℕ → List ObjectRow → Bool
 ids_within low high [] = true
 ids_within low high (row ∷ rows) = nat_le low row.id && nat_lt row.id high && ids_within low high rows
+
+-- whether the object expires
+abbrev pub expires : ObjectRow → Bool
+expires row = nat_lt 0 row.due

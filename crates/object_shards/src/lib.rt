@@ -2,10 +2,12 @@
 #![tactic(auto)]
 
 mod blocks;
+mod due_rows;
 mod object_shards;
 mod rows;
 mod shard;
 mod shards;
+mod table;
 #[cfg(test)]
 mod tests;
 

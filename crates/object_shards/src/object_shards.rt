@@ -1,30 +1,26 @@
-//! The object rows of a graph in shards.
-ghost use Rattle.std.specs.Prelude.{◌≡◌, ℕ, ◌<◌, IsTrue, length, slice_index};
-ghost use Rattle.object_shards.specs.Shards.{start, stand};
-ghost use Rattle.object_shards.specs.Blocks.{least_in, block_of, block_count};
+//! The object rows of a graph: by hashed id, with an order of those that expire.
+ghost use Rattle.std.specs.Prelude.{◌≡◌, filter};
+ghost use Rattle.object_shards.specs.DueRows.{due_rows_of};
+ghost use Rattle.object_shards.specs.Rows.{expires};
 
-use crate::blocks::{refill, refresh};
-use crate::shard::Shard;
-use crate::shards::{copied, due_after, make_room, object_with, place_of, put, rewrite, take};
+use crate::due_rows::DueRows;
+use crate::table::ObjectTable;
 use delf_model::{Moment, ObjectId, ObjectRow};
 use std::alloc::{AllocError, Global};
 
-/// The object rows of a graph by rising id, in shards of at most 256 neighbouring rows, with the least due of each 64 neighbouring shards.
+/// The object rows of a graph by rising id. A look-up takes a few steps, however many there are; what asks for a due takes a
+/// number that grows with the logarithm of how many expire. `ready_object` goes over all rows where the table has to grow,
+/// and `objects` sorts them.
 #[derive(Drop)]
 pub struct ObjectShards {
-    alloc: Global,
-    // By rising ids; the first begins at 0.
-    shards: Vec<Shard>,
-    // Of each block of neighbouring shards, in their order.
-    leasts: Vec<Moment>,
-    ghost in_order: { IsTrue (stand shards.items) },
-    ghost whole: { start shards.items ≡ 0 },
-    ghost blocks: { length leasts.items ≡ block_count (length shards.items) },
-    ghost least_dues: { (block : ℕ) → block < length leasts.items → slice_index leasts.items block ≡ least_in (block_of block shards.items) },
+    table: ObjectTable,
+    // A second time the rows of those that expire.
+    dues: DueRows,
+    ghost agree: { due_rows_of dues ≡ filter expires table.rows },
 }
 
 impl ObjectShards {
-    ghost use Rattle.std.specs.Prelude.{IfOk, OnOk, None, [], find, filter, map, is_some};
+    ghost use Rattle.std.specs.Prelude.{ℕ, IsTrue, IfOk, OnOk, None, [], find, map, is_some};
     ghost use Rattle.delf_model.specs.Graph.{has_id, put_object as with_row, rewritten, is_other_object};
     ghost use Rattle.delf_model.specs.Store.{least_due};
     ghost use Rattle.object_shards.specs.ObjectShards.{objects_of, is_ready};
@@ -33,14 +29,9 @@ impl ObjectShards {
     pub fn empty(alloc: Global) -> Result<ObjectShards, AllocError>
         ensures { IfOk result (λ shards. objects_of shards ≡ []) }
     {
-        let mut shards = Vec::new(alloc);
-        shards.push(Shard::of(alloc, 0, &[])?)?;
-        let mut leasts = Vec::with_capacity(alloc, 1)?;
-        refill(&mut leasts, &shards);
         Ok(ObjectShards {
-            alloc,
-            shards,
-            leasts,
+            table: ObjectTable::empty(alloc),
+            dues: DueRows::empty(alloc)?,
         })
     }
 
@@ -48,21 +39,21 @@ impl ObjectShards {
     pub fn object(&self, id: ObjectId) -> Option<ObjectRow>
         ensures { result ≡ find (has_id id) (objects_of self.now) }
     {
-        object_with(&self.shards, id)
+        self.table.row(id)
     }
 
     /// The least id above `after` whose due is above 0 and at most this moment.
     pub fn next_due(&self, moment: Moment, after: Option<ObjectId>) -> Option<ObjectId>
         ensures { result ≡ least_due moment after (objects_of self.now) }
     {
-        due_after(&self.shards, &self.leasts, moment, after)
+        self.dues.next_due(moment, after)
     }
 
     /// All object rows by rising id. The only error is want of memory.
     pub fn objects(&self, alloc: Global) -> Result<Vec<ObjectRow>, AllocError>
         ensures { IfOk result (λ rows. rows.items ≡ objects_of self.now) }
     {
-        copied(alloc, &self.shards)
+        self.table.rows(alloc)
     }
 
     /// Makes room for an object with this id, so that it can be put without memory. The only error is want of memory. Rows stay, whatever
@@ -72,14 +63,8 @@ impl ObjectShards {
         ensures ready { OnOk result (IsTrue (is_ready self.new id)) }
         ensures kept { (other : ℕ) → IsTrue (is_ready self.old other) → IsTrue (is_ready self.new other) }
     {
-        self.leasts.reserve(1)?;
-        let count = self.shards.len();
-        let made = make_room(self.alloc, &mut self.shards, id);
-        if self.shards.len() == count {
-            return made;
-        }
-        refill(&mut self.leasts, &self.shards);
-        made
+        self.table.ready()?;
+        self.dues.ready(id)
     }
 
     /// Puts an object whose id is free and was made ready.
@@ -88,8 +73,11 @@ impl ObjectShards {
         requires ready { IsTrue (is_ready self.old row.id) }
         ensures { objects_of self.new ≡ with_row row (objects_of self.old) }
     {
-        let place = put(&mut self.shards, row);
-        refresh(&mut self.leasts, &self.shards, place);
+        self.table.put(&row);
+        if row.due == 0 {
+            return;
+        }
+        self.dues.put(row);
     }
 
     /// Gives an object that stands a new payload: the position that gave it and its size.
@@ -97,7 +85,8 @@ impl ObjectShards {
         requires { IsTrue (is_some (find (has_id id) (objects_of self.old))) }
         ensures { objects_of self.new ≡ map (rewritten id at size) (objects_of self.old) }
     {
-        rewrite(&mut self.shards, id, at, size);
+        self.table.rewrite(id, at, size);
+        self.dues.rewrite(id, at, size);
     }
 
     /// Takes the object with this id, where there is one.
@@ -105,14 +94,7 @@ impl ObjectShards {
         ensures row { result ≡ find (has_id id) (objects_of self.old) }
         ensures objects { objects_of self.new ≡ filter (is_other_object id) (objects_of self.old) }
     {
-        let count = self.shards.len();
-        let place = place_of(&self.shards, id);
-        let row = take(&mut self.shards, id);
-        if self.shards.len() == count {
-            refresh(&mut self.leasts, &self.shards, place);
-            return row;
-        }
-        refill(&mut self.leasts, &self.shards);
-        row
+        self.dues.take(id);
+        self.table.take(id)
     }
 }

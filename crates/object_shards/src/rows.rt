@@ -26,23 +26,6 @@ pub fn place_of(rows: &[ObjectRow], id: ObjectId) -> usize
     low
 }
 
-/// The row with this id.
-pub fn object_with(rows: &[ObjectRow], id: ObjectId) -> Option<ObjectRow>
-    requires { IsTrue (objects_rise rows.now) }
-    ensures { result ≡ find (has_id id) rows.now }
-{
-    let place = place_of(rows, id);
-    if place >= rows.len() {
-        return None;
-    }
-    let row = rows[place];
-    if row.id.get() == id.get() {
-        Some(row)
-    } else {
-        None
-    }
-}
-
 /// The least id above `after` whose due is above 0 and at most this moment.
 pub fn due_after(rows: &[ObjectRow], moment: Moment, after: Option<ObjectId>) -> Option<ObjectId>
     ensures { result ≡ least_due moment after rows.now }

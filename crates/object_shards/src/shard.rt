@@ -3,9 +3,7 @@ ghost use Rattle.std.specs.Prelude.{◌≡◌, ◌≤◌, IsTrue, length};
 ghost use Rattle.delf_model.specs.Graph.{objects_rise};
 ghost use Rattle.object_shards.specs.Rows.{least_of};
 
-use crate::rows::{
-    due_after, least_due_of, lesser_due, object_with, put_row, rewrite_row, take_row,
-};
+use crate::rows::{due_after, least_due_of, lesser_due, put_row, rewrite_row, take_row};
 use delf_model::{Moment, ObjectId, ObjectRow};
 use std::alloc::{AllocError, Global};
 
@@ -53,13 +51,6 @@ impl Shard {
         ensures { result ≡ has_room self.now }
     {
         self.rows.len() < SHARD_ROWS && self.rows.len() < self.rows.capacity()
-    }
-
-    /// The row with this id.
-    pub fn object(&self, id: ObjectId) -> Option<ObjectRow>
-        ensures { result ≡ find (has_id id) self.now.rows.items }
-    {
-        object_with(&self.rows, id)
     }
 
     /// The least id above `after` whose due is above 0 and at most this moment.

@@ -88,27 +88,6 @@ fn due_from(
     None
 }
 
-/// The row with this id.
-pub fn object_with(shards: &[Shard], id: ObjectId) -> Option<ObjectRow>
-    requires stand { IsTrue (stand shards.now) }
-    requires first { start shards.now ≡ 0 }
-    ensures { result ≡ find (has_id id) (rows_of shards.now) }
-{
-    let place = place_of(shards, id);
-    shards[place].object(id)
-}
-
-/// All rows. The only error is want of memory.
-pub fn copied(alloc: Global, shards: &[Shard]) -> Result<Vec<ObjectRow>, AllocError>
-    ensures { IfOk result (λ rows. rows.items ≡ rows_of shards.now) }
-{
-    let mut rows = Vec::new(alloc);
-    for shard in shards {
-        rows.extend_from_slice(&shard.rows)?;
-    }
-    Ok(rows)
-}
-
 /// Makes room in the shard of this id: a full shard is parted in two. The only error is want of memory.
 pub fn make_room(alloc: Global, shards: &mut Vec<Shard>, id: ObjectId) -> Result<(), AllocError>
     requires stand { IsTrue (stand shards.old.items) }

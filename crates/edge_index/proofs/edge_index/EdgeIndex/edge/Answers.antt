@@ -3,4 +3,4 @@ use Rattle.edge_index.proofs.Rows.{find_row}
 use Rattle.edge_index.proofs.edge_index.EdgeIndex.edge.Goals as goal
 
 pub returns : goal.returns
-returns c = rw (← c.self.view_is) (c.row_at.ensures ∙ sym (find_row c.self.inside.tables.links.entries c.args.key c.self.invariant.rise))
+returns c = rw (← c.self.view_is) (c.row.ensures ∙ sym (find_row c.self.inside.tables.links.entries c.args.key c.self.invariant.rise))

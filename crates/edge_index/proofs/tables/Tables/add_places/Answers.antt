@@ -59,10 +59,10 @@ returns-in_err-ready_ref-clause-part c =
     } in
     on_err c.from_residual-in_err-ready_ref.result _ agree
 
-pub returns-in_err-insert-clause-part : goal.returns-in_err-insert-clause-part
-returns-in_err-insert-clause-part c =
-    let same = sym c.in_err-insert.ensures.err in
-    let agree : AgreeBut (same_key c.args.key) (record { shapes = c.args.self.now.shapes; links = c.insert.new.self; outward = c.add_place.new.order; inward = c.add_place-2.new.order; refs = c.ready_ref.new.refs }) =
+pub returns-in_err-ready-clause-part : goal.returns-in_err-ready-clause-part
+returns-in_err-ready-clause-part c =
+    let same = sym c.in_err-ready.ensures.err in
+    let agree : AgreeBut (same_key c.args.key) (record { shapes = c.args.self.now.shapes; links = c.ready.new.self; outward = c.add_place.new.order; inward = c.add_place-2.new.order; refs = c.ready_ref.new.refs }) =
     record {
       rise = subst (λ (links : List Entry). Sorted links) same c.requires.agree.rise;
       few = subst (λ (links : List Entry). length (rows_of links) < 4294967296) same c.requires.agree.few;
@@ -76,31 +76,31 @@ returns-in_err-insert-clause-part c =
           (refs_kept (counts c.args.self.now) c.args.self.now.links.entries c.args.self.now.refs.entries c.ready_ref.new.refs.entries
           c.in_ok-ready_ref.ensures.counts c.in_ok-ready_ref.ensures.stay c.requires.agree.refs);
     } in
-    on_err c.from_residual-in_err-insert.result _ agree
+    on_err c.from_residual-in_err-ready.result _ agree
 
-rows_after : (c : goal.In_ok-insert) → rows_of c.insert.new.self.entries ≡ rows_of c.args.self.now.links.entries
-rows_after c = ap rows_of c.in_ok-insert.ensures.entries ∙ rows_ready c.args.key c.args.self.now.links.entries (no_link c.args.self.now.links.entries c.args.key c.requires.free)
+rows_after : (c : goal.In_ok-ready) → rows_of c.ready.new.self.entries ≡ rows_of c.args.self.now.links.entries
+rows_after c = ap rows_of c.in_ok-ready.ensures.entries ∙ rows_ready c.args.key c.args.self.now.links.entries (no_link c.args.self.now.links.entries c.args.key c.requires.free)
 
 pub returns-clause-rows : goal.returns-clause-rows
 returns-clause-rows c = rows_after c
 
 pub returns-clause-stay : goal.returns-clause-stay
-returns-clause-stay c = room_grown c.args.self.now.links.entries c.insert.new.self.entries c.args.key None c.in_ok-insert.ensures.updates.0
+returns-clause-stay c = room_grown c.args.self.now.links.entries c.ready.new.self.entries c.args.key None c.in_ok-ready.ensures.linked
 
 pub returns-clause-agree : goal.returns-clause-agree
 returns-clause-agree c = record {
-  rise = c.in_ok-insert.ensures.ordered;
+  rise = c.in_ok-ready.ensures.rise;
   few = subst (λ (rs : List EdgeRow). length rs < 4294967296) (sym (rows_after c)) c.requires.agree.few;
-  out = order_grown at_source c.args.self.now.links.entries c.insert.new.self.entries c.add_place.new.order.entries c.args.key None c.in_ok-insert.ensures.updates.0
+  out = order_grown at_source c.args.self.now.links.entries c.ready.new.self.entries c.add_place.new.order.entries c.args.key None c.in_ok-ready.ensures.linked
       (ap (place_of c.add_place.new.order.entries) (sym c.source_end.ensures) ∙ c.in_ok-add_place.ensures.there)
       (c.in_ok-add_place.ensures.keeps at_source (same_key c.args.key) c.args.self.now.links.entries source_apart (sym c.source_end.ensures) (same_key_refl c.args.key)
       (order_wider at_source (same_key c.args.key) c.args.self.now.links.entries c.args.self.now.outward.entries c.requires.agree.out));
-  into = order_grown at_target c.args.self.now.links.entries c.insert.new.self.entries c.add_place-2.new.order.entries c.args.key None c.in_ok-insert.ensures.updates.0
+  into = order_grown at_target c.args.self.now.links.entries c.ready.new.self.entries c.add_place-2.new.order.entries c.args.key None c.in_ok-ready.ensures.linked
       (ap (place_of c.add_place-2.new.order.entries) (sym c.target_end.ensures) ∙ c.in_ok-add_place-2.ensures.there)
       (c.in_ok-add_place-2.ensures.keeps at_target (same_key c.args.key) c.args.self.now.links.entries target_apart (sym c.target_end.ensures) (same_key_refl c.args.key)
       (order_wider at_target (same_key c.args.key) c.args.self.now.links.entries c.args.self.now.inward.entries c.requires.agree.into));
-  refs = refs_grown (counts c.args.self.now) c.args.self.now.links.entries c.insert.new.self.entries c.ready_ref.new.refs.entries c.args.key (rows_after c)
-      (room_other c.args.self.now.links.entries c.insert.new.self.entries c.args.key None c.in_ok-insert.ensures.updates.0) c.in_ok-ready_ref.ensures.place
+  refs = refs_grown (counts c.args.self.now) c.args.self.now.links.entries c.ready.new.self.entries c.ready_ref.new.refs.entries c.args.key (rows_after c)
+      (room_other c.args.self.now.links.entries c.ready.new.self.entries c.args.key None c.in_ok-ready.ensures.linked) c.in_ok-ready_ref.ensures.place
       (refs_kept (counts c.args.self.now) c.args.self.now.links.entries c.args.self.now.refs.entries c.ready_ref.new.refs.entries
       c.in_ok-ready_ref.ensures.counts c.in_ok-ready_ref.ensures.stay c.requires.agree.refs);
 }

@@ -19,16 +19,16 @@ use Rattle.edge_index.proofs.Orders.{order_kept}
 use Rattle.edge_index.proofs.Changes.{free_link, refs_put}
 use Rattle.edge_index.proofs.tables.Tables.put.Goals as goal
 
-rows_after : (c : goal.After-count_up) → rows_of c.put_link.new.links.entries ≡ put_edge c.args.row.now (rows_of c.args.self.now.links.entries)
+rows_after : (c : goal.After-count_up) → rows_of c.put.new.self.entries ≡ put_edge c.args.row.now (rows_of c.args.self.now.links.entries)
 rows_after c =
-    ap rows_of c.put_link.ensures
+    ap rows_of c.put.ensures
     ∙ rows_put c.args.row.now c.args.self.now.links.entries c.requires.agree.rise
     (free_link c.args.row.now.key (link_at c.args.self.now.links.entries c.args.row.now.key) c.requires.ready
     (sym (find_row c.args.self.now.links.entries c.args.row.now.key c.requires.agree.rise) ∙ c.requires.free))
 
-keys_after : (c : goal.After-count_up) → keys_of c.put_link.new.links.entries ≡ keys_of c.args.self.now.links.entries
+keys_after : (c : goal.After-count_up) → keys_of c.put.new.self.entries ≡ keys_of c.args.self.now.links.entries
 keys_after c =
-    ap keys_of c.put_link.ensures
+    ap keys_of c.put.ensures
     ∙ keys-set_value (is_at (edge_cmp c.args.row.now.key)) c.args.self.now.links.entries (Some (link_of c.args.row.now))
 
 pub returns-clause-rows : goal.returns-clause-rows
@@ -36,15 +36,15 @@ returns-clause-rows c = rows_after c
 
 pub returns-clause-agree : goal.returns-clause-agree
 returns-clause-agree c =
-    let less = room_same c.args.self.now.links.entries c.put_link.new.links.entries (keys_after c) in
-    let more = room_same c.put_link.new.links.entries c.args.self.now.links.entries (sym (keys_after c)) in
+    let less = room_same c.args.self.now.links.entries c.put.new.self.entries (keys_after c) in
+    let more = room_same c.put.new.self.entries c.args.self.now.links.entries (sym (keys_after c)) in
     record {
       rise = subst (λ (keys : List EdgeKey). IsStrictlySortedBy edge_cmp keys) (sym (keys_after c)) c.requires.agree.rise;
       few = subst (λ (rs : List EdgeRow). length rs < 4294967296) (sym (rows_after c))
           (let one = length_put c.args.row.now (rows_of c.args.self.now.links.entries) in let room = c.requires.room in omega arith);
-      out = order_kept at_source c.args.self.now.links.entries c.put_link.new.links.entries c.args.self.now.outward.entries less more c.requires.agree.out;
-      into = order_kept at_target c.args.self.now.links.entries c.put_link.new.links.entries c.args.self.now.inward.entries less more c.requires.agree.into;
-      refs = refs_put (counts c.args.self.now) c.args.row.now c.args.self.now.links.entries c.put_link.new.links.entries c.args.self.now.refs.entries
+      out = order_kept at_source c.args.self.now.links.entries c.put.new.self.entries c.args.self.now.outward.entries less more c.requires.agree.out;
+      into = order_kept at_target c.args.self.now.links.entries c.put.new.self.entries c.args.self.now.inward.entries less more c.requires.agree.into;
+      refs = refs_put (counts c.args.self.now) c.args.row.now c.args.self.now.links.entries c.put.new.self.entries c.args.self.now.refs.entries
           c.count_up.new.refs.entries c.is_counting-counts.result
           (c.is_counting-counts.ensures ∙ ap (λ (shapes : List EdgeShape). is_refcount_shape (slice_get shapes c.args.row.now.key.edge)) c.deref.ensures.value)
           (rows_after c) c.requires.free less c.count_up.ensures.count c.count_up.ensures.places c.requires.agree.refs;

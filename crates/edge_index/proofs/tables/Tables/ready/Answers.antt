@@ -7,7 +7,7 @@ use Rattle.edge_index.proofs.tables.Tables.ready.Goals as goal
 
 pub returns-in-Err-clause-agree : goal.returns-in-Err-clause-agree
 returns-in-Err-clause-agree c =
-    let free = ap (λ (links : List Entry). has_room links c.args.key) c.in-Err.ensures.links ∙ (sym c.contains_key.ensures ∙ c.if-contains_key.false) in
+    let free = ap (λ (links : List Entry). has_room links c.args.key) c.in-Err.ensures.links ∙ (sym c.has.ensures ∙ c.if-has.false) in
     record {
       rise = c.in-Err.ensures.part.rise;
       few = c.in-Err.ensures.part.few;

@@ -18,30 +18,30 @@ use Rattle.edge_index.proofs.tables.Tables.take.Goals as goal
 
 pub count_down-requires : goal.count_down-requires
 count_down-requires c = λ counted.
-    some_count (counts c.args.self.now) c.args.self.now.links.entries c.args.self.now.refs.entries c.args.key.now c.row_at-row.result c.requires.refs
-    (find_row c.args.self.now.links.entries c.args.key.now c.requires.rise ∙ sym c.row_at-row.ensures)
+    some_count (counts c.args.self.now) c.args.self.now.links.entries c.args.self.now.refs.entries c.args.key.now c.take-row.result c.requires.refs
+    (find_row c.args.self.now.links.entries c.args.key.now c.requires.rise ∙ sym c.take-row.ensures.row)
     (sym (c.is_row_counting-counts.ensures
-    ∙ ap (λ (shapes : List EdgeShape). row_counts (λ edge. is_refcount_shape (slice_get shapes edge)) c.row_at-row.result) c.deref.ensures.value) ∙ counted)
+    ∙ ap (λ (shapes : List EdgeShape). row_counts (λ edge. is_refcount_shape (slice_get shapes edge)) c.take-row.result) c.deref.ensures.value) ∙ counted)
 
 pub forget-requires : goal.forget-requires
 forget-requires c = λ none.
-    let rows = ap rows_of c.remove.ensures.entries ∙ rows_take c.args.key.now c.args.self.now.links.entries c.requires.rise in
+    let rows = ap rows_of c.take-row.ensures.entries ∙ rows_take c.args.key.now c.args.self.now.links.entries c.requires.rise in
     let flag = c.is_row_counting-counts.ensures
-    ∙ (ap (λ (shapes : List EdgeShape). row_counts (λ edge. is_refcount_shape (slice_get shapes edge)) c.row_at-row.result) c.deref.ensures.value
-    ∙ ap (row_counts (counts c.args.self.now)) (c.row_at-row.ensures ∙ sym (find_row c.args.self.now.links.entries c.args.key.now c.requires.rise))) in
-    exact_taken (counts c.args.self.now) c.args.key.now c.args.self.now.links.entries c.remove.new.self.entries c.args.self.now.refs.entries c.count_down.new.refs.entries
+    ∙ (ap (λ (shapes : List EdgeShape). row_counts (λ edge. is_refcount_shape (slice_get shapes edge)) c.take-row.result) c.deref.ensures.value
+    ∙ ap (row_counts (counts c.args.self.now)) (c.take-row.ensures.row ∙ sym (find_row c.args.self.now.links.entries c.args.key.now c.requires.rise))) in
+    exact_taken (counts c.args.self.now) c.args.key.now c.args.self.now.links.entries c.take-row.new.self.entries c.args.self.now.refs.entries c.count_down.new.refs.entries
     c.is_row_counting-counts.result flag c.requires.rise rows c.count_down.ensures.count c.requires.refs c.args.key.now.to
-    ∙ none_count (counts c.args.self.now) c.remove.new.self.entries c.remove-3.new.self.entries c.args.key.now.to c.remove.ensures.ordered
-    (order_taken at_target _ target_is c.args.self.now.links.entries c.remove.new.self.entries c.args.self.now.inward.entries c.remove-3.new.self.entries
-    c.args.key.now c.target_end.result c.target_end.ensures (taken_room c.args.self.now.links.entries c.remove.new.self.entries c.args.key.now c.remove.ensures.updates.0)
-    (room_left c.args.self.now.links.entries c.remove.new.self.entries c.args.key.now c.remove.ensures.updates.0) c.remove-3.ensures.entries c.remove-3.ensures.ordered c.remove-3.ensures.updates.0
+    ∙ none_count (counts c.args.self.now) c.take-row.new.self.entries c.remove-2.new.self.entries c.args.key.now.to c.take-row.ensures.rise
+    (order_taken at_target _ target_is c.args.self.now.links.entries c.take-row.new.self.entries c.args.self.now.inward.entries c.remove-2.new.self.entries
+    c.args.key.now c.target_end.result c.target_end.ensures (taken_room c.args.self.now.links.entries c.take-row.new.self.entries c.args.key.now c.take-row.ensures.linked)
+    (room_left c.args.self.now.links.entries c.take-row.new.self.entries c.args.key.now c.take-row.ensures.linked) c.remove-2.ensures.entries c.remove-2.ensures.ordered c.remove-2.ensures.updates.0
     (order_wider at_target (same_key c.args.key.now) c.args.self.now.links.entries c.args.self.now.inward.entries c.requires.into)) none
 
 pub returns-clause-row : goal.returns-clause-row
-returns-clause-row c = c.row_at-row.ensures ∙ sym (find_row c.args.self.now.links.entries c.args.key.now c.requires.rise)
+returns-clause-row c = c.take-row.ensures.row ∙ sym (find_row c.args.self.now.links.entries c.args.key.now c.requires.rise)
 
-rows_after : (c : goal.After-forget) → rows_of c.remove.new.self.entries ≡ filter (is_other_edge c.args.key.now) (rows_of c.args.self.now.links.entries)
-rows_after c = ap rows_of c.remove.ensures.entries ∙ rows_take c.args.key.now c.args.self.now.links.entries c.requires.rise
+rows_after : (c : goal.After-forget) → rows_of c.take-row.new.self.entries ≡ filter (is_other_edge c.args.key.now) (rows_of c.args.self.now.links.entries)
+rows_after c = ap rows_of c.take-row.ensures.entries ∙ rows_take c.args.key.now c.args.self.now.links.entries c.requires.rise
 
 pub returns-clause-rows : goal.returns-clause-rows
 returns-clause-rows c = rows_after c
@@ -49,24 +49,24 @@ returns-clause-rows c = rows_after c
 pub returns-clause-agree : goal.returns-clause-agree
 returns-clause-agree c =
     let flag = c.is_row_counting-counts.ensures
-    ∙ (ap (λ (shapes : List EdgeShape). row_counts (λ edge. is_refcount_shape (slice_get shapes edge)) c.row_at-row.result) c.deref.ensures.value
-    ∙ ap (row_counts (counts c.args.self.now)) (c.row_at-row.ensures ∙ sym (find_row c.args.self.now.links.entries c.args.key.now c.requires.rise))) in
-    let into = order_taken at_target _ target_is c.args.self.now.links.entries c.remove.new.self.entries c.args.self.now.inward.entries c.remove-3.new.self.entries
-    c.args.key.now c.target_end.result c.target_end.ensures (taken_room c.args.self.now.links.entries c.remove.new.self.entries c.args.key.now c.remove.ensures.updates.0)
-    (room_left c.args.self.now.links.entries c.remove.new.self.entries c.args.key.now c.remove.ensures.updates.0) c.remove-3.ensures.entries c.remove-3.ensures.ordered c.remove-3.ensures.updates.0
+    ∙ (ap (λ (shapes : List EdgeShape). row_counts (λ edge. is_refcount_shape (slice_get shapes edge)) c.take-row.result) c.deref.ensures.value
+    ∙ ap (row_counts (counts c.args.self.now)) (c.take-row.ensures.row ∙ sym (find_row c.args.self.now.links.entries c.args.key.now c.requires.rise))) in
+    let into = order_taken at_target _ target_is c.args.self.now.links.entries c.take-row.new.self.entries c.args.self.now.inward.entries c.remove-2.new.self.entries
+    c.args.key.now c.target_end.result c.target_end.ensures (taken_room c.args.self.now.links.entries c.take-row.new.self.entries c.args.key.now c.take-row.ensures.linked)
+    (room_left c.args.self.now.links.entries c.take-row.new.self.entries c.args.key.now c.take-row.ensures.linked) c.remove-2.ensures.entries c.remove-2.ensures.ordered c.remove-2.ensures.updates.0
     (order_wider at_target (same_key c.args.key.now) c.args.self.now.links.entries c.args.self.now.inward.entries c.requires.into) in
     record {
-      rise = c.remove.ensures.ordered;
+      rise = c.take-row.ensures.rise;
       few = subst (λ (rs : List EdgeRow). length rs < 4294967296) (sym (rows_after c))
           (let less = length_filter (is_other_edge c.args.key.now) (rows_of c.args.self.now.links.entries) in let few = c.requires.few in omega arith);
-      out = order_taken at_source _ source_is c.args.self.now.links.entries c.remove.new.self.entries c.args.self.now.outward.entries c.remove-2.new.self.entries
-          c.args.key.now c.source_end.result c.source_end.ensures (taken_room c.args.self.now.links.entries c.remove.new.self.entries c.args.key.now c.remove.ensures.updates.0)
-          (room_left c.args.self.now.links.entries c.remove.new.self.entries c.args.key.now c.remove.ensures.updates.0) c.remove-2.ensures.entries c.remove-2.ensures.ordered c.remove-2.ensures.updates.0
+      out = order_taken at_source _ source_is c.args.self.now.links.entries c.take-row.new.self.entries c.args.self.now.outward.entries c.remove.new.self.entries
+          c.args.key.now c.source_end.result c.source_end.ensures (taken_room c.args.self.now.links.entries c.take-row.new.self.entries c.args.key.now c.take-row.ensures.linked)
+          (room_left c.args.self.now.links.entries c.take-row.new.self.entries c.args.key.now c.take-row.ensures.linked) c.remove.ensures.entries c.remove.ensures.ordered c.remove.ensures.updates.0
           (order_wider at_source (same_key c.args.key.now) c.args.self.now.links.entries c.args.self.now.outward.entries c.requires.out);
       into = into;
-      refs = refs_taken (counts c.args.self.now) c.args.self.now.links.entries c.remove.new.self.entries c.remove-3.new.self.entries c.args.self.now.refs.entries
-          c.count_down.new.refs.entries c.forget.new.refs.entries (room_taken c.args.self.now.links.entries c.remove.new.self.entries c.args.key.now c.remove.ensures.updates.0) into
-          (exact_taken (counts c.args.self.now) c.args.key.now c.args.self.now.links.entries c.remove.new.self.entries c.args.self.now.refs.entries c.count_down.new.refs.entries
+      refs = refs_taken (counts c.args.self.now) c.args.self.now.links.entries c.take-row.new.self.entries c.remove-2.new.self.entries c.args.self.now.refs.entries
+          c.count_down.new.refs.entries c.forget.new.refs.entries (room_taken c.args.self.now.links.entries c.take-row.new.self.entries c.args.key.now c.take-row.ensures.linked) into
+          (exact_taken (counts c.args.self.now) c.args.key.now c.args.self.now.links.entries c.take-row.new.self.entries c.args.self.now.refs.entries c.count_down.new.refs.entries
           c.is_row_counting-counts.result flag c.requires.rise (rows_after c) c.count_down.ensures.count c.requires.refs)
           c.count_down.ensures.places c.forget.ensures.counts c.forget.ensures.stay c.requires.refs;
     }
