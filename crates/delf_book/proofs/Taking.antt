@@ -8,12 +8,13 @@ use Rattle.gate_log.specs.Places.{size_in}
 use Rattle.entry_codec.specs.EntryHead.{IsBounded}
 use Rattle.entry_codec.specs.ItemHead.{item_size, IsTypeBounded}
 use Rattle.delf_model.specs.declared.rows.ObjectRow.{ObjectRow}
+use Rattle.delf_model.specs.declared.rows.EdgeKey.{EdgeKey}
 use Rattle.delf_model.specs.declared.rows.EdgeRow.{EdgeRow}
 use Rattle.delf_model.specs.declared.rows.Item.{Item}
 use Rattle.delf_model.specs.declared.rows.Item.TheVariants as item
 use Rattle.delf_model.specs.declared.entry.Entry.{Entry}
 use Rattle.delf_model.specs.declared.entry.What.{What}
-use Rattle.delf_model.specs.declared.entry.What.TheVariants.{Cut, Erase, Put, Purge}
+use Rattle.delf_model.specs.declared.entry.What.TheVariants.{Create, Update, Link, Unlink, Delete, Restore, Expire, Cut, Erase, Put, Purge}
 use Rattle.delf_model.specs.RuleSet.{RuleSet}
 use Rattle.delf_model.specs.Graph.{Graph, has_id, has_key, object_at, edge_at, edge_stands, is_touched}
 use Rattle.delf_model.specs.State.{State, start, position_of, is_owned_by}
@@ -21,15 +22,19 @@ use Rattle.delf_model.specs.Step.{step, run, after, edge_item, object_item, birt
 use Rattle.delf_model.specs.Owners.{key_of}
 use Rattle.delf_model.specs.Legal.{Legal, is_legal, is_allowed}
 use Rattle.delf_model.specs.Room.{payload_limit}
-use Rattle.delf_model.specs.Payloads.{Carrier, Journal, last_carrier, position_of_edge, position_of_object}
+use Rattle.delf_model.specs.Payloads.{Carrier, Journal, is_needed, last_carrier, position_of_edge, position_of_object}
 use Rattle.delf_model.proofs.Lines.{allowed_of}
 use Rattle.delf_model.proofs.Good.{good_after}
 use Rattle.delf_model.proofs.Leaves.{owner_is}
-use Rattle.delf_model.proofs.Owners.{OwnedStand}
+use Rattle.delf_model.proofs.Owners.{OwnedStand, found_id, found_key}
 use Rattle.payload_laws.specs.Holders.{position_taken, scrubbed_by, record_size, carrier_of_edge, carrier_of_object, HasSize}
+use Rattle.payload_laws.proofs.Members.{found_in}
 use Rattle.payload_laws.proofs.Moves.{payloads_held}
+use Rattle.payload_laws.proofs.Taken.{row_needed, edge_needed}
+use Rattle.held_laws.specs.Held.{would_log, edge_logged, object_logged}
 use Rattle.delete_step.specs.Logging.{logged_by, first_item}
 use Rattle.delf_book.specs.Keeping.{journal_sizes, scrubs_rows}
+use Rattle.delf_book.specs.Claims.{taken_by}
 use Rattle.delf_book.specs.Taken.{TakesItem}
 use Rattle.delf_book.proofs.Fitting.{FitsObject, FitsEdge, all_found, objects_fit, edges_fit}
 
@@ -69,6 +74,77 @@ takes_object s job id row at = record {
   position = ap (λ (o : Option ObjectRow). Some (position_of_object o)) at;
   scrubbed = ap (carrier_of_object s) at;
 }
+
+-- the same, of an item that a step would log
+
+pub would_log_is : (s : State) (w : What) → would_log s w ≡ first_item (logged_by s.graph w)
+would_log_is s (Cut job edge from to) = by_row (edge_at s.graph (key_of edge from to))
+  where
+    by_row : (o : Option EdgeRow) → edge_logged s.graph job o ≡ first_item (edge_item s.graph job o)
+    by_row None = refl
+    by_row (Some row) = refl
+would_log_is s (Erase job id) = by_row (object_at s.graph id)
+  where
+    by_row : (o : Option ObjectRow) → object_logged job o ≡ first_item (object_item job o)
+    by_row None = refl
+    by_row (Some row) = refl
+would_log_is s (Create tag kind id size) = refl
+would_log_is s (Update tag id size) = refl
+would_log_is s (Link tag edge from to size) = refl
+would_log_is s (Unlink tag edge from to name) = refl
+would_log_is s (Delete tag id name) = refl
+would_log_is s (Restore tag job) = refl
+would_log_is s (Expire id) = refl
+would_log_is s (Put job i) = refl
+would_log_is s (Purge job) = refl
+
+pub takes_logged : (s : State) (w : What) (it : Item) → would_log s w ≡ Some it → TakesItem s w it
+takes_logged s (Cut job edge from to) it is = by_row (edge_at s.graph (key_of edge from to)) refl is
+  where
+    by_row : (o : Option EdgeRow) → edge_at s.graph (key_of edge from to) ≡ o → edge_logged s.graph job o ≡ Some it → TakesItem s (Cut job edge from to) it
+    by_row None at is = absurd (cc is)
+    by_row (Some row) at is = subst (TakesItem s (Cut job edge from to)) (same_Some (cut_item s job row) it is) (takes_edge s job edge from to row at)
+takes_logged s (Erase job id) it is = by_row (object_at s.graph id) refl is
+  where
+    by_row : (o : Option ObjectRow) → object_at s.graph id ≡ o → object_logged job o ≡ Some it → TakesItem s (Erase job id) it
+    by_row None at is = absurd (cc is)
+    by_row (Some row) at is = subst (TakesItem s (Erase job id)) (same_Some (item.Object job row) it is) (takes_object s job id row at)
+takes_logged s w it is = absurd (cc is)
+
+pub needed_logged : (s : State) (w : What) (it : Item) → would_log s w ≡ Some it → is_needed s (position_of it) ≡ true
+needed_logged s (Cut job edge from to) it is = by_row (edge_at s.graph (key_of edge from to)) refl is
+  where
+    by_row : (o : Option EdgeRow) → edge_at s.graph (key_of edge from to) ≡ o → edge_logged s.graph job o ≡ Some it → is_needed s (position_of it) ≡ true
+    by_row None at is = absurd (cc is)
+    by_row (Some row) at is =
+        subst (λ (x : Item). is_needed s (position_of x) ≡ true) (same_Some (cut_item s job row) it is)
+        (edge_needed s row.birth row (found_in (has_key (key_of edge from to)) s.graph.edges row at) refl)
+needed_logged s (Erase job id) it is = by_row (object_at s.graph id) refl is
+  where
+    by_row : (o : Option ObjectRow) → object_at s.graph id ≡ o → object_logged job o ≡ Some it → is_needed s (position_of it) ≡ true
+    by_row None at is = absurd (cc is)
+    by_row (Some row) at is =
+        subst (λ (x : Item). is_needed s (position_of x) ≡ true) (same_Some (item.Object job row) it is)
+        (row_needed s row.at row (found_in (has_id id) s.graph.objects row at) refl)
+needed_logged s w it is = absurd (cc is)
+
+-- the item names the step
+pub taken_is : (s : State) (w : What) (it : Item) → would_log s w ≡ Some it → taken_by it ≡ w
+taken_is s (Cut job edge from to) it is = by_row (edge_at s.graph (key_of edge from to)) refl is
+  where
+    by_row : (o : Option EdgeRow) → edge_at s.graph (key_of edge from to) ≡ o → edge_logged s.graph job o ≡ Some it → taken_by it ≡ Cut job edge from to
+    by_row None at is = absurd (cc is)
+    by_row (Some row) at is =
+        subst (λ (x : Item). taken_by x ≡ Cut job edge from to) (same_Some (cut_item s job row) it is)
+        (ap (λ (k : EdgeKey). Cut job k.edge k.from k.to) (found_key s.graph.edges (key_of edge from to) row at))
+taken_is s (Erase job id) it is = by_row (object_at s.graph id) refl is
+  where
+    by_row : (o : Option ObjectRow) → object_at s.graph id ≡ o → object_logged job o ≡ Some it → taken_by it ≡ Erase job id
+    by_row None at is = absurd (cc is)
+    by_row (Some row) at is =
+        subst (λ (x : Item). taken_by x ≡ Erase job id) (same_Some (item.Object job row) it is)
+        (ap (Erase job) (found_id s.graph.objects id row at))
+taken_is s w it is = absurd (cc is)
 
 -- the size of a record of the journal
 

@@ -20,6 +20,7 @@ use Rattle.delf_model.specs.Report.{items_of}
 use Rattle.delf_model.specs.Payloads.{Payloads, payloads_after}
 use Rattle.store_laws.specs.Stores.{digest}
 use Rattle.store_laws.specs.Moves.{RestIn, StandsFor}
+use Rattle.delete_step.specs.Claims.{ClaimView}
 use Rattle.delf_book.specs.Parts.{Interrupted}
 use Rattle.delf_book.specs.declared.faults.EntryFault.{EntryFault}
 use Rattle.delf_book.specs.declared.faults.EntryFault.TheVariants.{OutOfMemory, Failed}
@@ -27,13 +28,14 @@ use Rattle.delf_book.specs.declared.answers.Receipt.{Receipt}
 use Rattle.delf_book.specs.declared.answers.BookFault.{BookFault}
 use Rattle.delf_book.specs.declared.answers.BookFault.TheVariants as fault
 
--- rules and history with its payloads, the stored graph, how many further deletion steps need no memory, whether a disk fault was
--- answered and what may then stand beside the history, the disk, and the disk as it was at the opening
+-- rules and history with its payloads, the stored graph, the held claims by age, how many further deletion steps need no memory,
+-- whether a disk fault was answered and what may then stand beside the history, the disk, and the disk as it was at the opening
 pub record Booked (G R : Type 0) : Type 0 where
   pub rules : RuleSet
   pub history : List Entry
   pub payloads : Payloads
   pub store : G
+  pub held : List ClaimView
   pub spare : ℕ
   pub down : Bool
   pub beside : Option Interrupted
@@ -106,6 +108,7 @@ pub record Grew {G R : Type 0} (old now : Booked G R) (entry : Entry) : Type 0 w
   pub history : now.history ≡ old.history ++ entry ∷ []
   pub up : now.down ≡ false
   pub beside : now.beside ≡ old.beside
+  pub held : now.held ≡ old.held
   pub opened : now.opened ≡ old.opened
 
 -- the payloads are those after an entry that was given these bytes
@@ -119,6 +122,7 @@ pub record Stayed {G R : Type 0} (old now : Booked G R) : Type 0 where
   pub payloads : now.payloads ≡ old.payloads
   pub down : now.down ≡ old.down
   pub beside : now.beside ≡ old.beside
+  pub held : now.held ≡ old.held
   pub spare : old.spare ≤ now.spare
   pub rig : now.rig ≡ old.rig
   pub opened : now.opened ≡ old.opened
@@ -130,6 +134,7 @@ pub record Fell {G R : Type 0} (old now : Booked G R) (beside : Option Interrupt
   pub payloads : now.payloads ≡ old.payloads
   pub down : now.down ≡ true
   pub is_beside : now.beside ≡ beside
+  pub held : now.held ≡ old.held
   pub spare : old.spare ≤ now.spare
   pub opened : now.opened ≡ old.opened
 

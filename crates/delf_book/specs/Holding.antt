@@ -1,9 +1,10 @@
 -- What the disk of a book holds, told of what the book is seen as.
-use Rattle.std.specs.Prelude.{◌≡◌, false, List, Option, Some, None}
+use Rattle.std.specs.Prelude.{◌≡◌, ℕ, false, List, [], ◌∷◌, Option, Some, None, filter, if◌then◌else◌}
 use Rattle.delf_disk.specs.Areas.{Areas}
 use Rattle.delf_model.specs.declared.entry.Entry.{Entry}
 use Rattle.delf_model.specs.RuleSet.{RuleSet}
-use Rattle.delf_model.specs.Payloads.{Payloads}
+use Rattle.delf_model.specs.State.{State}
+use Rattle.delf_model.specs.Payloads.{Payloads, payload_at, is_at, is_needed}
 use Rattle.store_laws.specs.Stores.{StandBut, Stand, Clean}
 use Rattle.store_laws.specs.Moves.{RestIn, StandsFor}
 use Rattle.delf_book.specs.Parts.{Interrupted}
@@ -25,3 +26,7 @@ pub record Holds {G R : Type 0} (seen : R → Areas) (may_leave : R → Areas �
   pub rests : book.down ≡ false → RestIn book.rules book.history book.payloads (may_leave book.rig)
   -- and what reads has nothing more but closed tails
   pub clean : book.down ≡ false → Clean book.rules book.history (seen book.rig)
+
+-- each needed position has one pair, and no other position has any
+abbrev pub ArePaired : State → Payloads → Type 0
+ArePaired s e = (p : ℕ) → filter (is_at p) e.bytes ≡ (if is_needed s p then (p, payload_at e p) ∷ [] else [])

@@ -1,4 +1,6 @@
+pub mod Begun
 pub mod Books
+pub mod Claims
 pub mod Dead
 pub mod Holding
 pub mod Keeping

@@ -1,3 +1,4 @@
+use delete_step::Claim;
 use delf_model::Job;
 
 /// What an accepted call is answered.
@@ -18,6 +19,19 @@ pub enum Worked {
     Stepped { position: u32 },
     /// No step is legal at this moment; the history has this length.
     Idle { len: u32 },
+}
+
+/// What `begin` is answered.
+#[derive(Drop)]
+pub enum Begun {
+    /// A step was made; its entry stands at this position.
+    Stepped { position: u32 },
+    /// A row that a Cut or Erase takes is held, and its payload was read.
+    Claimed(Claim),
+    /// No step is legal at this moment; the history has this length.
+    Idle { len: u32 },
+    /// Every legal step is among the `n` held claims; the history has this length.
+    Held { n: u32, len: u32 },
 }
 
 /// Why a step was not made.

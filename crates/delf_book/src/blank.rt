@@ -19,5 +19,6 @@ pub fn fold<G: GraphStore>(alloc: Global, rules: Rules, graph: G) -> Fold<G>
     Fold {
         ledger: Ledger::new(alloc, rules, graph),
         carriers: Vec::new(alloc),
+        claims: Vec::new(alloc),
     }
 }

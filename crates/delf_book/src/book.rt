@@ -1,4 +1,4 @@
-ghost use Rattle.std.specs.Prelude.{◌≡◌, ◌≤◌, true, false, None, length, nat_eq, IfSome};
+ghost use Rattle.std.specs.Prelude.{◌≡◌, ◌≤◌, true, false, None, length, nat_eq, slice_get, take, IfSome};
 ghost use Rattle.delf_disk.specs.declared.area.Order.TheVariants.{FailAfter};
 ghost use Rattle.delf_disk.specs.Areas.{Areas};
 ghost use Rattle.delf_disk.specs.Causes.{Rose};
@@ -9,15 +9,16 @@ ghost use Rattle.delf_model.specs.Legal.{Legal};
 ghost use Rattle.delf_model.specs.Room.{used, owed};
 ghost use Rattle.delf_model.specs.Sound.{Sound};
 ghost use Rattle.delf_model.specs.State.{owner as owner_of, find_job};
-ghost use Rattle.delf_model.specs.Report.{status as status_of, job_at as line_at, listed_at as listed_of};
+ghost use Rattle.delf_model.specs.Report.{status as status_of, job_at as line_at, listed_at as listed_of, listed_from};
 ghost use Rattle.job_table.specs.Table.{IsGraphOf, top_seat as greatest_seat};
 ghost use Rattle.ledger.specs.Ledgers.{found};
 ghost use Rattle.delf_book.specs.Books.{state_in};
 ghost use Rattle.store_laws.specs.Stores.{AreSealed};
-ghost use Rattle.delf_book.specs.Holding.{Holds, StandWhole};
+ghost use Rattle.delf_book.specs.Holding.{Holds, StandWhole, ArePaired};
 
 use crate::beside::Beside;
 use crate::logs::Logs;
+use delete_step::Claim;
 use delf_disk::Rig;
 use delf_model::{GraphStore, Job, JobLine, JobName, Listed, ObjectId, ObjectRow, Rules, Status};
 use history_laws::legal_is_sound;
@@ -33,6 +34,7 @@ use std::snapshot::Snapshot;
 pub struct Book<G: GraphStore, R: Rig> {
     pub(crate) ledger: Ledger<G>,
     pub(crate) logs: Logs,
+    pub(crate) claims: Vec<Claim>,
     pub(crate) spare: u32,
     pub(crate) down: bool,
     pub(crate) beside: Option<Beside>,
@@ -43,7 +45,8 @@ pub struct Book<G: GraphStore, R: Rig> {
 }
 
 impl<G: GraphStore, R: Rig> Model for Book<G, R> {
-    ghost use Rattle.std.specs.Prelude.{◌≡◌, true, false, [], None, vec_capacity};
+    ghost use Rattle.std.specs.Prelude.{◌≡◌, true, false, None, vec_len, vec_capacity};
+    ghost use Rattle.delf_book.specs.Claims.{room_for, KeepsClaims, AreRead};
     ghost use Rattle.delf_disk.specs.Plain.{Plain};
     ghost use Rattle.delf_book.specs.Books.{Booked};
     ghost use Rattle.delf_model.specs.Step.{after};
@@ -51,14 +54,15 @@ impl<G: GraphStore, R: Rig> Model for Book<G, R> {
 
     ghost Value = { Booked G R };
 
-    ghost view = { λ b. record { rules = b.ledger.rules; history = b.ledger.history; payloads = payloads_in (after b.ledger.rules b.ledger.history) (R.Disk.seen b.rested.value); store = b.ledger.store; spare = b.spare; down = b.down; beside = b.beside; rig = b.rig; opened = b.opened.value } };
+    ghost view = { λ b. record { rules = b.ledger.rules; history = b.ledger.history; payloads = payloads_in (after b.ledger.rules b.ledger.history) (R.Disk.seen b.rested.value); store = b.ledger.store; held = b.claims.items; spare = b.spare; down = b.down; beside = b.beside; rig = b.rig; opened = b.opened.value } };
 
-    ghost invariant = { λ b. (b.down ≡ false → KeepsUp b.ledger.rules b.ledger.history b.spare b.ledger.spare b.logs.journal b.logs.vault b.logs.carriers.items (vec_capacity b.logs.carriers) (R.Disk.told b.rig) (R.Disk.honest b.rig) (R.Disk.seen b.rig) (R.Disk.may_leave b.rig))
+    ghost invariant = { λ b. (b.down ≡ false → KeepsUp b.ledger.rules b.ledger.history (room_for b.spare (vec_len b.claims)) b.ledger.spare b.logs.journal b.logs.vault b.logs.carriers.items (vec_capacity b.logs.carriers) (R.Disk.told b.rig) (R.Disk.honest b.rig) (R.Disk.seen b.rig) (R.Disk.may_leave b.rig))
         × (b.down ≡ false → b.beside ≡ None)
         × (b.down ≡ true → Plain (R.Disk.told b.rig) (R.Disk.honest b.rig) → KeepsDown b.ledger.rules b.ledger.history (payloads_in (after b.ledger.rules b.ledger.history) (R.Disk.seen b.rested.value)) b.beside (R.Disk.may_leave b.rig))
         × (Plain (R.Disk.told b.rig) (R.Disk.honest b.rig) → KeepsPayloads b.ledger.rules b.ledger.history (payloads_in (after b.ledger.rules b.ledger.history) (R.Disk.seen b.rested.value)) b.down (R.Disk.seen b.rig) (R.Disk.seen b.opened.value))
         × KeepsOpening R.Disk.told R.Disk.honest R.Disk.faults b.down b.opened.value b.rig
-        × (b.ledger.held ≡ []) };
+        × KeepsClaims b.ledger.rules b.ledger.history b.ledger.held b.spare b.claims.items (vec_capacity b.claims)
+        × (Plain (R.Disk.told b.rig) (R.Disk.honest b.rig) → AreRead (payloads_in (after b.ledger.rules b.ledger.history) (R.Disk.seen b.rested.value)) b.claims.items) };
 }
 
 impl<G: GraphStore, R: Rig> Book<G, R> {
@@ -114,12 +118,14 @@ impl<G: GraphStore, R: Rig> Book<G, R> {
     /// Tells what the disk holds. Each image stands for the history and its payloads, or while the book is down, for
     /// those or for them with the entry beside them. While it is up nothing is beside it, and both areas hold nothing more
     /// but closed tails. Where they stood whole at the opening, each payload that the restoration log carries is the one
-    /// that was sealed.
+    /// that was sealed. Whatever the disk tells, the payloads are those of the needed positions, one each.
     pub fn standing(&self)
         ensures alone { self.now.down ≡ false → self.now.beside ≡ None }
         ensures holds { Plain (R.Disk.told self.now.rig) (R.Disk.honest self.now.rig) → Holds R.Disk.seen R.Disk.may_leave self.now }
         ensures sealed { Plain (R.Disk.told self.now.rig) (R.Disk.honest self.now.rig) → StandWhole self.now.rules (R.Disk.seen self.now.opened)
             → AreSealed self.now.rules self.now.history self.now.payloads }
+        // Each position that the history needs has one payload, and no other has any.
+        ensures paired { ArePaired (state_in self.now) self.now.payloads }
         // The disk is of the kind that it was at the opening, and only a book that met a fault is down.
         ensures telling { SameTelling R.Disk.told R.Disk.honest self.now.opened self.now.rig }
         ensures later { R.Disk.faults self.now.opened ≤ R.Disk.faults self.now.rig }
@@ -191,6 +197,16 @@ impl<G: GraphStore, R: Rig> Book<G, R> {
         self.ledger.listed_at(job, i)
     }
 
+    /// The listed item of the job with the greatest number below this one. All listed items of a job, each read below the
+    /// one before, cost one pass over where its items stand.
+    pub fn listed_before(&self, job: Job, below: u32) -> Option<Listed>
+        ensures value { result ≡ slice_get (listed_from job 0 (take below (state_in self.now).items)) 0 }
+        ensures sound { Sound self.now.rules self.now.history }
+    {
+        let _len = self.len();
+        self.ledger.listed_before(job, below)
+    }
+
     /// Lets the `n`-th disk call from now fail, in place of one that was to fail by an earlier order. At 0 no call fails
     /// by it.
     pub fn fail_after(&mut self, n: u32)
@@ -217,6 +233,7 @@ impl<G: GraphStore + Drop, R: Rig> Book<G, R> {
         let Book {
             ledger: _,
             logs: _,
+            claims: _,
             spare: _,
             down: _,
             beside: _,

@@ -32,6 +32,7 @@ impl<G: GraphStore, R: Rig> Book<G, R> {
         ensures cause { CountsRefusal (R.Disk.faults self.old.rig) (R.Disk.faults self.new.rig) result }
     {
         let len = self.ledger.len();
+        let _held = self.ledger.held();
         if self.down {
             return Err(Refusal::Down { len });
         }
@@ -41,10 +42,12 @@ impl<G: GraphStore, R: Rig> Book<G, R> {
         let entry = Entry { moment, what };
         let receipt = receipt_of(&self.ledger, &entry.what);
         let payload = payload_of(call);
+        let claims = self.claims.len();
         match enter(
             &mut self.ledger,
             &mut self.logs,
             &mut self.rig,
+            claims,
             self.spare,
             &entry,
             payload,

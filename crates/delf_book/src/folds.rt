@@ -1,4 +1,4 @@
-ghost use Rattle.std.specs.Prelude.{◌≡◌, ◌≤◌, ◌&&◌, length, nat_eq, true, false, None, IfOk, OnErr, Ok};
+ghost use Rattle.std.specs.Prelude.{◌≡◌, ◌≤◌, ◌&&◌, length, nat_eq, true, false, [], None, IfOk, OnErr, Ok};
 ghost use Rattle.delf_disk.specs.Plain.{Plain};
 ghost use Rattle.entry_codec.specs.EntryHead.{AreEntries};
 ghost use Rattle.delf_model.specs.Legal.{Legal, is_legal};
@@ -10,6 +10,7 @@ ghost use Rattle.delf_book.specs.Reads.{TellsLive};
 use crate::book::Book;
 use crate::carried::{keeps, take};
 use crate::logs::Logs;
+use delete_step::Claim;
 use delf_disk::{Area, Rig};
 use delf_model::{Entry, GraphStore, Item, Rules};
 use gate_log::GateLog;
@@ -25,6 +26,7 @@ use vault::Vault;
 pub struct Fold<G: GraphStore> {
     pub(crate) ledger: Ledger<G>,
     pub(crate) carriers: Vec<u32>,
+    pub(crate) claims: Vec<Claim>,
 }
 
 impl<G: GraphStore> Model for Fold<G> {
@@ -37,7 +39,7 @@ impl<G: GraphStore> Model for Fold<G> {
 
     ghost use Rattle.std.specs.Prelude.{◌≡◌, []};
 
-    ghost invariant = { λ f. KeepsCarriers f.ledger.rules f.ledger.history f.carriers.items × (f.ledger.held ≡ []) };
+    ghost invariant = { λ f. KeepsCarriers f.ledger.rules f.ledger.history f.carriers.items × (f.ledger.held ≡ []) × (f.claims.items ≡ []) };
 }
 
 impl<G: GraphStore> Fold<G> {
@@ -111,13 +113,18 @@ impl<G: GraphStore> Fold<G> {
         ensures rules { result.rules ≡ self.rules }
         ensures history { result.history ≡ self.history }
         ensures store { result.store ≡ self.store }
+        ensures held { result.held ≡ [] }
         ensures up { result.down ≡ false }
         ensures beside { result.beside ≡ None }
         ensures rig { result.rig ≡ rig }
         ensures opened { result.opened ≡ rig }
         ensures payloads { result.payloads ≡ payloads_in (state_of self) (R.Disk.seen rig) }
     {
-        let Fold { ledger, carriers } = self;
+        let Fold {
+            ledger,
+            carriers,
+            claims,
+        } = self;
         // The length tells that the history is legal.
         let _len = ledger.len();
         let rested = Snapshot::of(&rig);
@@ -129,6 +136,7 @@ impl<G: GraphStore> Fold<G> {
                 vault,
                 carriers,
             },
+            claims,
             spare: 0,
             down: false,
             beside: None,

@@ -3,15 +3,18 @@
 
 mod adding;
 mod answers;
+mod begin;
 mod beside;
 mod blank;
 mod book;
 mod call;
 mod calls;
 mod carried;
+mod claims;
 mod dead;
 mod erasing;
 mod faults;
+mod finish;
 mod folds;
 mod logs;
 mod purging;
@@ -26,9 +29,10 @@ mod stepping;
 mod tails;
 mod work;
 
-pub use answers::{BookFault, Receipt, StepFault, Worked};
+pub use answers::{Begun, BookFault, Receipt, StepFault, Worked};
 pub use beside::Beside;
 pub use blank::fold;
 pub use book::Book;
+pub use delete_step::{Claim, Prepared, prepare};
 pub use delf_model::{Call, Cause, JobLine, Listed, Status};
 pub use folds::Fold;

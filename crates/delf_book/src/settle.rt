@@ -11,7 +11,7 @@ ghost use Rattle.delf_book.specs.Writing.{Rests};
 
 use crate::answers::BookFault;
 use crate::book::Book;
-use crate::ready::make_room;
+use crate::ready::make_step_room;
 use crate::tails::settle_areas;
 use delf_disk::{Failed, Rig};
 use delf_model::GraphStore;
@@ -24,11 +24,12 @@ impl<G: GraphStore, R: Rig> Book<G, R> {
         ensures ok { OnOk result (n ≤ self.new.spare) }
         ensures same { Stayed self.old self.new }
     {
-        match make_room(&mut self.ledger, &mut self.logs, n) {
+        if n <= self.spare {
+            return Ok(());
+        }
+        match make_step_room(&mut self.ledger, &mut self.logs, &mut self.claims, n) {
             Ok(()) => {
-                if n > self.spare {
-                    self.spare = n;
-                }
+                self.spare = n;
                 Ok(())
             }
             Err(AllocError) => Err(AllocError),

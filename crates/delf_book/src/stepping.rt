@@ -10,6 +10,7 @@ ghost use Rattle.delf_book.specs.declared.stepping.Halt.TheVariants.{OutOfMemory
 ghost use Rattle.delf_book.specs.Books.{IsCrashSafe, IsDurable, is_reserved as is_reserved_step};
 ghost use Rattle.delf_book.specs.Keeping.{KeepsLogs, KeepsCarriers, KeepsAreas, KeepsUp, HasRoom};
 ghost use Rattle.ledger.specs.Ledgers.{state_of, is_ready, IsSame, HasEntered};
+ghost use Rattle.delf_book.specs.Claims.{room_for};
 ghost use Rattle.delf_book.specs.Stepping.{PutsBackItem, TellsWhy, RefusesPut, IfDamaged, CountsPut, halt_of, IfStarved, IfHurt, IfWaits, CountsHalt};
 ghost use Rattle.delf_book.specs.Steps.{PutsSealed, TellsDamage};
 ghost use Rattle.delf_book.specs.Writing.{Rests};
@@ -19,7 +20,7 @@ use crate::erasing::take_row;
 use crate::logs::Logs;
 use crate::purging::purge_job;
 use crate::putting::put_item;
-use crate::ready::make_ready;
+use crate::ready::{make_ready, room_and_one};
 use delf_disk::Disk;
 use delf_model::{Entry, GraphStore, What};
 use ledger::Ledger;
@@ -75,10 +76,11 @@ pub(crate) fn step<G: GraphStore, D: Disk>(
     ledger: &mut Ledger<G>,
     logs: &mut Logs,
     disk: &mut D,
+    claims: usize,
     spare: u32,
     entry: &Entry,
 ) -> Result<u32, Halt>
-    requires up { KeepsUp ledger.old.rules ledger.old.history spare ledger.old.spare logs.old.journal logs.old.vault logs.old.carriers.items (vec_capacity logs.old.carriers) (D.told disk.old) (D.honest disk.old) (D.seen disk.old) (D.may_leave disk.old) }
+    requires up { KeepsUp ledger.old.rules ledger.old.history (room_for spare claims) ledger.old.spare logs.old.journal logs.old.vault logs.old.carriers.items (vec_capacity logs.old.carriers) (D.told disk.old) (D.honest disk.old) (D.seen disk.old) (D.may_leave disk.old) }
     requires legal { is_legal (state_of ledger.old) entry.now ≡ true }
     requires step { is_step entry.now.what ≡ true }
     requires free { is_held ledger.old.held entry.now.what ≡ false }
@@ -87,12 +89,13 @@ pub(crate) fn step<G: GraphStore, D: Disk>(
     ensures ok { OnOk result (HasEntered ledger.old ledger.new entry.now) }
     ensures err { OnErr result (ledger.new.history ≡ ledger.old.history) }
     ensures held { ledger.new.held ≡ ledger.old.held }
-    ensures up { IfOk result (λ left. KeepsUp ledger.new.rules ledger.new.history left ledger.new.spare logs.new.journal logs.new.vault logs.new.carriers.items (vec_capacity logs.new.carriers) (D.told disk.new) (D.honest disk.new) (D.seen disk.new) (D.may_leave disk.new)) }
-    ensures stays { IfWaits result (KeepsUp ledger.new.rules ledger.new.history spare ledger.new.spare logs.new.journal logs.new.vault logs.new.carriers.items (vec_capacity logs.new.carriers) (D.told disk.new) (D.honest disk.new) (D.seen disk.new) (D.may_leave disk.new)) }
+    ensures up { IfOk result (λ left. KeepsUp ledger.new.rules ledger.new.history (room_for left claims) ledger.new.spare logs.new.journal logs.new.vault logs.new.carriers.items (vec_capacity logs.new.carriers) (D.told disk.new) (D.honest disk.new) (D.seen disk.new) (D.may_leave disk.new)) }
+    ensures stays { IfWaits result (KeepsUp ledger.new.rules ledger.new.history (room_for spare claims) ledger.new.spare logs.new.journal logs.new.vault logs.new.carriers.items (vec_capacity logs.new.carriers) (D.told disk.new) (D.honest disk.new) (D.seen disk.new) (D.may_leave disk.new)) }
 
     // Room is taken by one at most, and only by a step for which it is kept. Memory is not wanting for such a step.
     ensures spare { IfOk result (λ left. spare ≤ left + 1) }
     ensures kept { IfOk result (λ left. is_reserved_step entry.now.what ≡ false → spare ≤ left) }
+    ensures less { IfOk result (λ left. left ≤ spare) }
     ensures unreserved { IfStarved result (0 < spare → is_reserved_step entry.now.what ≡ false) }
     ensures unread { IfStarved result (disk.new ≡ disk.old) }
 
@@ -114,21 +117,22 @@ pub(crate) fn step<G: GraphStore, D: Disk>(
     ensures cause { CountsHalt (D.faults disk.old) (D.faults disk.new) result }
 {
     let _len = ledger.len();
-    let left = ready_step(ledger, logs, spare, &entry.what)?;
+    let left = ready_step(ledger, logs, claims, spare, &entry.what)?;
     make_step(ledger, logs, disk, entry)?;
     Ok(left)
 }
 
-/// Makes room for a step beside what is kept for `spare` further deletion steps, or takes that of one of them. It gives
+/// Makes room for a step beside what is kept for `spare` further deletion steps and the claims, or takes that of one step. It gives
 /// for how many there is room once the step is made. The only error is want of memory; whatever it answers, no room is
 /// lost.
 fn ready_step<G: GraphStore>(
     ledger: &mut Ledger<G>,
     logs: &mut Logs,
+    claims: usize,
     spare: u32,
     what: &What,
 ) -> Result<u32, AllocError>
-    requires room { HasRoom spare ledger.old.spare logs.old.journal logs.old.vault (length logs.old.carriers.items) (vec_capacity logs.old.carriers) }
+    requires room { HasRoom (room_for spare claims) ledger.old.spare logs.old.journal logs.old.vault (length logs.old.carriers.items) (vec_capacity logs.old.carriers) }
 
     ensures ledger { IsSame ledger.old ledger.new }
     ensures journal_area { logs.new.journal.area ≡ logs.old.journal.area }
@@ -136,17 +140,18 @@ fn ready_step<G: GraphStore>(
     ensures vault_area { logs.new.vault.area ≡ logs.old.vault.area }
     ensures vault_sizes { logs.new.vault.sizes ≡ logs.old.vault.sizes }
     ensures carriers { logs.new.carriers.items ≡ logs.old.carriers.items }
-    ensures keeps { HasRoom spare ledger.new.spare logs.new.journal logs.new.vault (length logs.new.carriers.items) (vec_capacity logs.new.carriers) }
-    ensures room { IfOk result (λ left. HasRoom (left + 1) ledger.new.spare logs.new.journal logs.new.vault (length logs.new.carriers.items) (vec_capacity logs.new.carriers)) }
+    ensures keeps { HasRoom (room_for spare claims) ledger.new.spare logs.new.journal logs.new.vault (length logs.new.carriers.items) (vec_capacity logs.new.carriers) }
+    ensures room { IfOk result (λ left. HasRoom (room_for left claims + 1) ledger.new.spare logs.new.journal logs.new.vault (length logs.new.carriers.items) (vec_capacity logs.new.carriers)) }
     ensures ready { OnOk result (IsTrue (is_ready (G.is_ready_object ledger.new.store) (G.is_ready_edge ledger.new.store) ledger.new what.now)) }
     ensures spare { IfOk result (λ left. spare ≤ left + 1) }
     ensures kept { IfOk result (λ left. is_reserved_step what.now ≡ false → spare ≤ left) }
+    ensures less { IfOk result (λ left. left ≤ spare) }
     ensures unreserved { OnErr result (0 < spare → is_reserved_step what.now ≡ false) }
 {
     if spare > 0 && is_reserved(what) {
         return Ok(spare - 1);
     }
-    let Some(n) = spare.checked_add(1) else {
+    let Some(n) = room_and_one(spare, claims) else {
         return Err(AllocError);
     };
     make_ready(ledger, logs, what, n)?;

@@ -1,5 +1,5 @@
 //! Serial steps.
-ghost use Rattle.std.specs.Prelude.{◌≡◌, false};
+ghost use Rattle.std.specs.Prelude.{◌≡◌, [], false};
 ghost use Rattle.delf_disk.specs.Plain.{Plain, SameKind};
 ghost use Rattle.delf_model.specs.Room.{moment_of};
 ghost use Rattle.delf_model.specs.Sound.{FirstIsLegal};
@@ -17,10 +17,11 @@ use ledger::moment_at;
 use std::snapshot::Snapshot;
 
 impl<G: GraphStore, R: Rig> Book<G, R> {
-    /// Makes the first step of the serial order, where the clock says `now`: an expiry, a cut, an erasure, a put or a
-    /// purge. `Idle` comes exactly where no step is legal at this moment, and `Damaged` never over a store that stands
+    /// Makes the first step of the serial order, where no claim is held and the clock says `now`: an expiry, a cut, an
+    /// erasure, a put or a purge. `Idle` comes exactly where no step is legal at this moment, and `Damaged` never over a store that stands
     /// whole.
     pub fn work(&mut self, now: Moment) -> Result<Worked, StepFault>
+        requires { self.old.held ≡ [] }
         ensures answer { StepAnswers self.old self.new (moment_of (state_in self.old) now) result }
         ensures order { self.old.down ≡ false → FirstIsLegal (state_in self.old) (moment_of (state_in self.old) now) }
         ensures payloads { Plain (R.Disk.told self.old.rig) (R.Disk.honest self.old.rig)
@@ -33,6 +34,7 @@ impl<G: GraphStore, R: Rig> Book<G, R> {
         ensures cause { CountsStep (R.Disk.faults self.old.rig) (R.Disk.faults self.new.rig) result }
     {
         let len = self.ledger.len();
+        let _held = self.ledger.held();
         if self.down {
             return Err(StepFault::Down { len });
         }
@@ -41,10 +43,12 @@ impl<G: GraphStore, R: Rig> Book<G, R> {
             return Ok(Worked::Idle { len });
         };
         let entry = Entry { moment, what };
+        let claims = self.claims.len();
         match step(
             &mut self.ledger,
             &mut self.logs,
             &mut self.rig,
+            claims,
             self.spare,
             &entry,
         ) {

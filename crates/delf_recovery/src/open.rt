@@ -1,5 +1,5 @@
 //! The opening of a store.
-ghost use Rattle.std.specs.Prelude.{◌≡◌, ◌⊎◌, false, ℕ, List, None, IfOk, IfErr};
+ghost use Rattle.std.specs.Prelude.{◌≡◌, ◌⊎◌, false, ℕ, List, [], None, IfOk, IfErr};
 ghost use Rattle.delf_disk.specs.declared.area.Area.{Area as AnArea};
 ghost use Rattle.delf_disk.specs.Areas.{Areas};
 ghost use Rattle.delf_disk.specs.Plain.{Plain, SameKind};
@@ -28,7 +28,7 @@ use std::alloc::Global;
 /// Opens the store that stands on this disk, for a schema with these rules. A sync comes first. A blank area is given
 /// its mark. The journal is read, then the vault, each from the front and in pieces of 65,536 bytes. One vault record that
 /// no entry names is dropped, zeros are written over every payload that is not needed and not zeros already, and a sync
-/// comes last.
+/// comes last. No claim is held.
 ///
 /// With `Err` the disk comes back. `BadStore` comes exactly where a place is bad, the first one; it writes nothing to a
 /// store whose journal is bad.
@@ -44,6 +44,7 @@ pub fn open_book<G: GraphStore + Drop, R: Rig>(
     ensures rules { IfOk result (λ book. book.rules ≡ rules) }
     ensures up { IfOk result (λ book. book.down ≡ false) }
     ensures beside { IfOk result (λ book. book.beside ≡ None) }
+    ensures held { IfOk result (λ book. book.held ≡ []) }
     ensures legal { IfOk result (λ book. Legal book.rules book.history) }
     ensures sound { IfOk result (λ book. Sound book.rules book.history) }
 

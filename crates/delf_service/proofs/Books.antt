@@ -2,7 +2,6 @@
 use Rattle.std.proofs.Common.{◌≡◌, ℕ, ◌≤◌, Bool, true, false, List, [], ◌∷◌, ◌++◌, Option, Some, None, Result, Ok, Err, refl, sym, ap, ◌∙◌, subst}
 use Rattle.std.specs.Prelude.{is_some, length, take, IfOk, IsTrue}
 use Rattle.std.specs.Result.{result_err}
-use Rattle.delf_disk.specs.Areas.{Areas}
 use Rattle.delf_disk.specs.Causes.{Rose}
 use Rattle.delf_disk.specs.Plain.{Plain, SameKind}
 use Rattle.delf_disk.specs.declared.area.Order.{Order}
@@ -12,6 +11,8 @@ use Rattle.delf_model.specs.declared.call.Refusal.{Refusal}
 use Rattle.delf_model.specs.declared.call.Refusal.TheVariants as refusal
 use Rattle.delf_model.specs.declared.entry.Entry.{Entry}
 use Rattle.delf_model.specs.declared.rows.ObjectRow.{ObjectRow}
+use Rattle.delf_model.specs.declared.entry.What.{What}
+use Rattle.delf_model.specs.Order.{is_legal_step}
 use Rattle.delf_model.specs.Graph.{object_at}
 use Rattle.delf_model.specs.Payloads.{Payloads, payload_at}
 use Rattle.delf_model.specs.RuleSet.{RuleSet}
@@ -28,7 +29,12 @@ use Rattle.delf_book.specs.Reads.{IsObjectAt}
 use Rattle.delf_book.specs.Seals.{StepKeepsSeals}
 use Rattle.store_laws.specs.Stores.{AreSealed}
 use Rattle.store_laws.specs.Moves.{RestIn}
-use Rattle.delf_book.specs.Steps.{StepAnswers, StepIsSafe, StepPayloads, CountsStep, TellsDamage}
+use Rattle.delf_book.specs.Begun.{BeginAnswers, BeginPayloads, BeginKeepsSeals, FinishAnswers, FinishPayloads}
+use Rattle.delf_book.specs.Claims.{step_of as claimed_step}
+use Rattle.delf_book.specs.declared.answers.Begun.{Begun}
+use Rattle.delf_book.specs.declared.answers.Begun.TheVariants as begun
+use Rattle.delete_step.specs.Claims.{ClaimView}
+use Rattle.delf_book.specs.Steps.{StepAnswers, StepIsSafe, StepPayloads, CountsStep}
 use Rattle.delf_book.specs.declared.answers.Receipt.{Receipt}
 use Rattle.delf_book.specs.declared.answers.BookFault.{BookFault}
 use Rattle.delf_book.specs.declared.answers.BookFault.TheVariants as book
@@ -43,9 +49,9 @@ use Rattle.delf_service.specs.declared.standing.DiskKind.{DiskKind}
 use Rattle.delf_service.specs.declared.standing.Key.{Key}
 use Rattle.delf_service.specs.declared.standing.Standing.{Standing}
 use Rattle.delf_service.specs.Asks.{AsksIn, ReadsIn, ReadsTo, down_fault}
-use Rattle.delf_service.specs.Calls.{AnswersIn, PayloadsIn, Falls, IsDown, entry_in, with_entry}
+use Rattle.delf_service.specs.Calls.{AnswersIn, Falls, IsDown, entry_in, with_entry}
 use Rattle.delf_service.specs.Standings.{IsCaused, IsPlain, kind_of, opening_of, payloads_of, standing_in, state_at}
-use Rattle.delf_service.specs.Works.{StepsIn}
+use Rattle.delf_service.specs.Works.{StepsIn, MeetsFirst, TurnsIn, step_fault}
 use Rattle.delf_service.proofs.Tags.{reply_maker, step_maker}
 
 -- a key and a standing by their parts
@@ -64,6 +70,22 @@ same_parts h h' e e' f f' b b' n k k' p q s t u =
     ap (λ (x : List Entry). parts x e f b n k) p
     ∙ (ap (λ (x : Payloads). parts h' x f b n k) q
     ∙ (ap (λ (x : ℕ). parts h' e' x b n k) s ∙ (ap (λ (x : Bool). parts h' e' f' x n k) t ∙ ap (λ (x : Key). parts h' e' f' b' n x) u)))
+
+-- what the first half of a step comes to: nothing yet where a row was claimed, or each legal step is claimed
+abbrev pub begun_by : Result Begun StepFault → Option (Result Turned StepFault)
+begun_by (Ok (begun.Stepped position)) = Some (Ok (turned.Stepped position))
+begun_by (Ok (begun.Claimed claim)) = None
+begun_by (Ok (begun.Idle len)) = Some (Ok (turned.Idle len))
+begun_by (Ok (begun.Held n len)) = None
+begun_by (Err why) = Some (Err why)
+
+abbrev pub ended_by : Result ℕ BookFault → Result Turned StepFault
+ended_by (Ok position) = Ok (turned.Stepped position)
+ended_by (Err why) = Err (step_fault why)
+
+abbrev pub BecomesIn : Standing → Standing → ℕ → Option (Result Turned StepFault) → Type 0
+BecomesIn x y now None = y ≡ x
+BecomesIn x y now (Some outcome) = StepsIn x y now outcome
 
 -- a step of the book, as a worker tells it
 abbrev pub turned_by : Result Worked StepFault → Result Turned StepFault
@@ -102,7 +124,8 @@ module _ {R : Type 0} (d : Ghosts R) where
     key_same : now.rules ≡ old.rules → SameRig old.rig now.rig → now.opened ≡ old.opened → y.key ≡ x.key
     key_same rules kept opened = same_key m now.rules old.rules (kind_of d now.rig) (kind_of d old.rig) now.opened old.opened rules (same_kind old.rig now.rig kept) opened
 
-    grew : (e : Entry) → old.down ≡ false → Grew old now e → d.faults now.rig ≡ d.faults old.rig → SameRig old.rig now.rig → y ≡ with_entry x e (payloads_of y)
+    grew : {held : List ClaimView} (e : Entry) → old.down ≡ false → Grew (record old { held = held }) now e → d.faults now.rig ≡ d.faults old.rig → SameRig old.rig now.rig
+        → y ≡ with_entry x e (payloads_of y)
     grew e up g count kept =
         same_parts now.history (old.history ++ e ∷ []) now.payloads now.payloads (d.faults now.rig) (d.faults old.rig) now.down old.down n y.key x.key
         g.history refl count (g.up ∙ sym up) (key_same g.rules kept g.opened)
@@ -113,7 +136,7 @@ module _ {R : Type 0} (d : Ghosts R) where
         s.history s.payloads (ap d.faults s.rig) s.down
         (same_key m now.rules old.rules (kind_of d now.rig) (kind_of d old.rig) now.opened old.opened s.rules (ap (λ (r : R). kind_of d r) s.rig) s.opened)
 
-    fell : (beside : Option Interrupted) → old.down ≡ false → Fell old now beside → (d.faults old.rig ≤ d.faults now.rig) × Rose (d.faults old.rig) (d.faults now.rig) → SameRig old.rig now.rig
+    fell : {held : List ClaimView} (beside : Option Interrupted) → old.down ≡ false → Fell (record old { held = held }) now beside → (d.faults old.rig ≤ d.faults now.rig) × Rose (d.faults old.rig) (d.faults now.rig) → SameRig old.rig now.rig
         → Falls x y
     fell beside up f count kept = record {
       up = up;
@@ -122,6 +145,14 @@ module _ {R : Type 0} (d : Ghosts R) where
       later = count.0;
       rose = count.1;
     }
+
+    -- a row was claimed
+    beside : {claims : List ClaimView} {store : G} {spare : ℕ} {rig : R} → now ≡ record old { held = claims; store = store; spare = spare; rig = rig } → d.faults now.rig ≡ d.faults old.rig
+        → SameRig old.rig now.rig → y ≡ x
+    beside o count kept =
+        same_parts now.history old.history now.payloads old.payloads (d.faults now.rig) (d.faults old.rig) now.down old.down n y.key x.key
+        (ap (λ (b : Booked G R). b.history) o) (ap (λ (b : Booked G R). b.payloads) o) count (ap (λ (b : Booked G R). b.down) o)
+        (key_same (ap (λ (b : Booked G R). b.rules) o) kept (ap (λ (b : Booked G R). b.opened) o))
 
     was_down : (len : ℕ) → WasDown old now len → IsDown x y len
     was_down len w = record { down = w.0; length_is = w.1; same = unchanged w.2 }
@@ -163,6 +194,15 @@ module _ {R : Type 0} (d : Ghosts R) where
     reads_in row (Err (book.DiskFault len)) fault h count kept is =
         subst (λ (f : Option BookFault). ReadsIn x y (Some row) f) (sym is) (fell old.beside h.0 h.1 count kept, h.2)
 
+    held_same : (moment n len : ℕ) (r : Result Begun StepFault) → r ≡ Ok (begun.Held n len) → BeginAnswers old now moment r → now ≡ old
+    held_same moment n len r is h = (subst (λ (z : Result Begun StepFault). BeginAnswers old now moment z) is h).same
+
+    -- where each legal step is claimed nothing changed, so a turn behind it is one of the book that was found
+    pub held_turn : (moment clock n len : ℕ) (z : Standing) (w : Result Turned StepFault) (r : Result Begun StepFault) (b : Begun) → r ≡ Ok b → b ≡ begun.Held n len
+        → BeginAnswers old now moment r → TurnsIn y z clock w → TurnsIn x z clock w
+    held_turn moment clock n len z w r b is one h turns =
+        subst (λ (s : Standing). TurnsIn s z clock w) (unchanged (held_same moment n len r (is ∙ ap (λ (v : Begun). Ok v) one) h)) turns
+
     -- what a step answers
     module _ (clock : ℕ) (holds : Tells → Holds d.seen d.may_leave old)
         (sealed : Tells → StandWhole old.rules (d.seen old.opened) → AreSealed old.rules old.history old.payloads) where
@@ -178,21 +218,21 @@ module _ {R : Type 0} (d : Ghosts R) where
       steps_in (Ok (worked.Stepped position)) h given safe seals count kept order = record {
         up = h.up;
         what = h.what;
-        is_first = h.is_first;
+        is_legal = (order h.up).legal h.what h.is_first;
         maker = step_maker (state_in old) (moment_of (state_in old) clock) h.what ((order h.up).legal h.what h.is_first);
         left = grew (entry_in x clock h.what) h.up h.grew count kept;
         payloads = λ plain. given plain h.what h.is_first;
         position_is = h.position_is;
       }
-      steps_in (Ok (worked.Idle len)) h given safe seals count kept order = record { up = h.up; none = h.none; same = unchanged h.same; length_is = h.length_is }
+      steps_in (Ok (worked.Idle len)) h given safe seals count kept order = record { up = h.up; none = (order h.up).none h.none; same = unchanged h.same; length_is = h.length_is }
       steps_in (Err (fault.Down len)) h given safe seals count kept order = was_down len h
-      steps_in (Err fault.OutOfMemory) h given safe seals count kept order = record { up = h.up; what = h.what; is_first = h.is_first; same = stayed h.stayed }
+      steps_in (Err fault.OutOfMemory) h given safe seals count kept order = record { up = h.up; what = h.what; is_legal = (order h.up).legal h.what h.is_first; same = stayed h.stayed }
       steps_in (Err (fault.DiskFault len)) h given safe seals count kept order =
-          record { what = h.what; is_first = h.is_first; falls = fell _ h.up h.fell count kept; length_is = h.length_is }
+          record { what = h.what; is_legal = (order h.up).legal h.what h.is_first; falls = fell _ h.up h.fell count kept; length_is = h.length_is }
       steps_in (Err (fault.Damaged item stored digest)) h given safe seals count kept order = record {
         up = h.up;
         what = h.what;
-        is_first = h.is_first;
+        is_legal = (order h.up).legal h.what h.is_first;
         logged = h.logged;
         puts = h.puts;
         differ = h.differ;
@@ -202,6 +242,83 @@ module _ {R : Type 0} (d : Ghosts R) where
             (ap (λ (b : Booked G R). b.history) h.rest) (ap (λ (b : Booked G R). b.payloads) h.rest) count (ap (λ (b : Booked G R). b.down) h.rest)
             (key_same (ap (λ (b : Booked G R). b.rules) h.rest) kept (ap (λ (b : Booked G R). b.opened) h.rest));
       }
+
+      -- where an item is met damaged, the first step of the serial order would put it back
+      pub meets_first : (r : Result Worked StepFault) → StepAnswers old now (moment_of (state_in old) clock) r → MeetsFirst x clock (turned_by r)
+      meets_first (Ok (worked.Stepped position)) h = tt
+      meets_first (Ok (worked.Idle len)) h = tt
+      meets_first (Err (fault.Down len)) h = tt
+      meets_first (Err fault.OutOfMemory) h = tt
+      meets_first (Err (fault.DiskFault len)) h = tt
+      meets_first (Err (fault.Damaged item stored digest)) h = (h.puts.job, h.is_first ∙ ap (λ (w : What). Some w) h.puts.is_put)
+
+      pub begin_in : (r : Result Begun StepFault) → BeginAnswers old now (moment_of (state_in old) clock) r
+          → (Tells → BeginPayloads old now (moment_of (state_in old) clock) r)
+          → (Tells → BeginKeepsSeals old now (moment_of (state_in old) clock) r)
+          → CountsStep (d.faults old.rig) (d.faults now.rig) r → SameRig old.rig now.rig → BecomesIn x y clock (begun_by r)
+      begin_in (Ok (begun.Stepped position)) h given seals count kept = record {
+        up = h.up;
+        what = h.what;
+        is_legal = h.may.free.0;
+        maker = step_maker (state_in old) (moment_of (state_in old) clock) h.what h.may.free.0;
+        left = grew (entry_in x clock h.what) h.up h.grew count kept;
+        payloads = λ plain. (given plain h.what h.grew.history).0;
+        position_is = h.position_is;
+      }
+      begin_in (Ok (begun.Claimed claim)) h given seals count kept = beside h.same count kept
+      begin_in (Ok (begun.Idle len)) h given seals count kept = record { up = h.up; none = h.none; same = unchanged h.same; length_is = h.length_is }
+      begin_in (Ok (begun.Held n len)) h given seals count kept = unchanged h.same
+      begin_in (Err (fault.Down len)) h given seals count kept = was_down len h
+      begin_in (Err fault.OutOfMemory) h given seals count kept = record { up = h.up; what = h.what; is_legal = h.may.free.0; same = stayed h.stayed }
+      begin_in (Err (fault.DiskFault len)) h given seals count kept =
+          record { what = h.what; is_legal = h.may.free.0; falls = fell _ h.up h.fell count kept; length_is = h.length_is }
+      begin_in (Err (fault.Damaged item stored digest)) h given seals count kept = record {
+        up = h.up;
+        what = h.what;
+        is_legal = h.may.free.0;
+        logged = h.logged;
+        puts = h.puts;
+        differ = h.differ;
+        tells = λ plain. given plain;
+        never = λ plain whole. seals plain (sealed plain whole);
+        same = same_parts now.history old.history now.payloads old.payloads (d.faults now.rig) (d.faults old.rig) now.down old.down n y.key x.key
+            (ap (λ (b : Booked G R). b.history) h.rest) (ap (λ (b : Booked G R). b.payloads) h.rest) count (ap (λ (b : Booked G R). b.down) h.rest)
+            (key_same (ap (λ (b : Booked G R). b.rules) h.rest) kept (ap (λ (b : Booked G R). b.opened) h.rest));
+      }
+
+      -- the same, where the answer is known
+      pub begin_at : (r : Result Begun StepFault) (b b' : Begun) → r ≡ Ok b → b ≡ b' → BeginAnswers old now (moment_of (state_in old) clock) r
+          → (Tells → BeginPayloads old now (moment_of (state_in old) clock) r)
+          → (Tells → BeginKeepsSeals old now (moment_of (state_in old) clock) r)
+          → CountsStep (d.faults old.rig) (d.faults now.rig) r → SameRig old.rig now.rig → BecomesIn x y clock (begun_by (Ok b'))
+      begin_at r b b' is one h given seals count kept =
+          subst (λ (z : Begun). BecomesIn x y clock (begun_by (Ok z))) one
+          (subst (λ (z : Result Begun StepFault). BecomesIn x y clock (begun_by z)) is (begin_in r h given seals count kept))
+
+      -- what the step of a claim answers, which is legal
+      pub end_in : (claim : ClaimView) (r : Result ℕ BookFault) → is_legal_step (state_in old) (moment_of (state_in old) clock) (claimed_step claim) ≡ true
+          → FinishAnswers old now (moment_of (state_in old) clock) claim r
+          → (Tells → FinishPayloads old now (moment_of (state_in old) clock) claim r)
+          → CountsFault (d.faults old.rig) (d.faults now.rig) r → SameRig old.rig now.rig → StepsIn x y clock (ended_by r)
+      end_in claim (Ok position) legal h given count kept = record {
+        up = h.up;
+        what = claimed_step claim;
+        is_legal = legal;
+        maker = step_maker (state_in old) (moment_of (state_in old) clock) (claimed_step claim) legal;
+        left = grew (entry_in x clock (claimed_step claim)) h.up h.grew count kept;
+        payloads = λ plain. (given plain).0;
+        position_is = h.position_is;
+      }
+      end_in claim (Err (book.Down len)) legal h given count kept = record { down = h.0; length_is = h.1; same = ap (λ (b : Booked G R). standing_in d b m n) h.2 }
+      end_in claim (Err (book.DiskFault len)) legal h given count kept =
+          record { what = claimed_step claim; is_legal = legal; falls = fell _ h.up h.fell count kept; length_is = h.length_is }
+
+      -- the same, where the answer is known
+      pub end_at : (claim : ClaimView) (r r' : Result ℕ BookFault) → r ≡ r' → is_legal_step (state_in old) (moment_of (state_in old) clock) (claimed_step claim) ≡ true
+          → FinishAnswers old now (moment_of (state_in old) clock) claim r
+          → (Tells → FinishPayloads old now (moment_of (state_in old) clock) claim r)
+          → CountsFault (d.faults old.rig) (d.faults now.rig) r → SameRig old.rig now.rig → StepsIn x y clock (ended_by r')
+      end_at claim r r' is legal h given count kept = subst (λ (z : Result ℕ BookFault). StepsIn x y clock (ended_by z)) is (end_in claim r legal h given count kept)
 
 stands_if : (s : State) (id : ℕ) (o : Option ObjectRow) (row : ObjectRow × Option ℕ) → found_row s id o ≡ Some row → IsTrue (is_some o)
 stands_if s id None row e = absurd (cc e)

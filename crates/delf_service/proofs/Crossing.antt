@@ -17,6 +17,7 @@ use Rattle.seat_lock.proofs.lock.SeatLock.TheSendSync as lock
 use Rattle.ledger.specs.contracts.ledger.Ledger as ledger
 use Rattle.job_table.specs.contracts.table.JobTable as jobs
 use Rattle.delf_model.specs.contracts.rules.Rules as rules
+use Rattle.delete_step.specs.contracts.claim.Claim as claim
 
 pub jobs_send : IsSend jobs.the_row
 jobs_send = search (maps.crosses, crosses, sendable) depth 60 fits 20000
@@ -24,11 +25,14 @@ jobs_send = search (maps.crosses, crosses, sendable) depth 60 fits 20000
 pub rules_send : IsSend rules.the_row
 rules_send = search (maps.crosses, crosses, sendable) depth 60 fits 20000
 
+pub claim_send : IsSend claim.the_row
+claim_send = search (maps.crosses, crosses, sendable) depth 60 fits 20000
+
 pub ledger_send : (G : RattleType) (g : graph.Ghosts G.Denot) → IsSend G → IsSend (ledger.the_row G g)
 ledger_send G g graph = search (jobs_send, rules_send, maps.crosses, crosses, sendable) depth 60 fits 20000
 
 pub book_send : (G R : RattleType) (g : graph.Ghosts G.Denot) (d : disk.Ghosts R.Denot) → IsSend G → IsSend R → IsSend (book.the_row G R g d)
-book_send G R g d graph rig = search (ledger_send, maps.crosses, crosses, sendable) depth 60 fits 20000
+book_send G R g d graph rig = search (ledger_send, claim_send, maps.crosses, crosses, sendable) depth 60 fits 20000
 
 pub held_send : (G R : RattleType) (g : graph.Ghosts G.Denot) (d : disk.Ghosts R.Denot) → IsSend G → IsSend R → IsSend (held.the_row G R g d)
 held_send G R g d graph rig = search (book_send, maps.crosses, crosses, sendable) depth 60 fits 20000

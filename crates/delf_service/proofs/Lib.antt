@@ -1,6 +1,7 @@
 pub mod Answering
 pub mod Blocks
 pub mod Books
+pub mod Claimed
 pub mod Crossing
 pub mod Entries
 pub mod Joining

@@ -17,7 +17,7 @@ use Rattle.delf_service.specs.Lanes.{LaneTold, Ended}
 use Rattle.delf_service.specs.Seats.{AreMoments}
 use Rattle.delf_service.specs.Rows.{commands_at}
 use Rattle.delf_service.specs.Standings.{IsCaused, seat_of, state_at, with_lanes}
-use Rattle.delf_service.specs.Works.{first_in, DamagedIn}
+use Rattle.delf_service.specs.Works.{first_in, DamagedIn, IsFirstPut}
 
 -- the root's number, and that of the lane at this place
 abbrev pub root_of : Standing → ℕ
@@ -28,7 +28,7 @@ lane_seat first place = root_of first + 1 + place
 
 -- the first step of the serial order would put back an item that is damaged
 abbrev pub IsDamaged : Standing → ℕ → Type 0
-IsDamaged s now = (item : ℕ) × (stored : List ℕ) × (read : List ℕ) × DamagedIn s s now item stored read
+IsDamaged s now = (item : ℕ) × (stored : List ℕ) × (read : List ℕ) × IsFirstPut s now item × DamagedIn s s now item stored read
 
 -- a book that is up has no legal step left, or a damaged item is before all others
 abbrev pub Rests : Standing → ℕ → Type 0

@@ -1,7 +1,6 @@
 -- What is known of a shared book at one moment.
 use Rattle.std.specs.Prelude.{◌≡◌, ℕ, List, [], Option, Some, None, true, false}
 use Rattle.std.specs.List.{Contains}
-use Rattle.delf_disk.specs.Areas.{Areas}
 use Rattle.delf_disk.specs.Causes.{Rose}
 use Rattle.delf_disk.specs.Plain.{Plain}
 use Rattle.delf_disk.specs.declared.area.Order.TheVariants.{Nothing}

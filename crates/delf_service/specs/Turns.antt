@@ -1,5 +1,4 @@
 -- One turn of a seat: what it found, and what it remembers.
-use Rattle.std.specs.Prelude.{◌≡◌, ℕ}
 use Rattle.std.specs.List.{Contains}
 use Rattle.delf_model.specs.declared.entry.Entry.{Entry}
 use Rattle.seat_lock.specs.declared.view.Moment.{Moment}

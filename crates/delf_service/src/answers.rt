@@ -1,5 +1,5 @@
 //! What the calls of a seat are answered.
-use delf_book::{BookFault, Receipt};
+use delf_book::{BookFault, Claim, Receipt, StepFault};
 use delf_model::{Job, ObjectRow, Refusal};
 
 /// What a writing call is answered, at the length of the history that it found.
@@ -25,4 +25,13 @@ pub enum Turned {
     Stepped { position: u32 },
     /// No step is legal at this moment; the history has this length.
     Idle { len: u32 },
+}
+
+/// What the first half of a turn of a worker is answered.
+#[derive(Drop)]
+pub(crate) enum Began {
+    /// A row that a Cut or Erase takes is claimed.
+    Claimed(Claim),
+    /// The turn is over: a step was made at once, or none is to be made.
+    Over(Result<Turned, StepFault>),
 }

@@ -212,6 +212,7 @@ impl<G: GraphStore + Send, R: Rig + Send> Service<G, R> {
         requires room { HasRooms lanes.now (λ l. l.items) (λ l. vec_capacity l) room.lists.items }
         requires none { (room.rows.items ≡ []) × (room.seats.items ≡ []) × (room.outs.items ≡ []) }
         requires fits { (length room.lists.items ≤ vec_capacity room.rows) × (length room.lists.items ≤ vec_capacity room.seats) × (length room.lists.items ≤ vec_capacity room.outs) }
+        ensures none { result.0.held ≡ [] }
         ensures kept { HasLanes (standing_of R.Disk (start_of self.lock).book (start_of self.lock).moment) (standing_of R.Disk result.0 (Some now)) (length lanes.now) }
         ensures told { AreToldLanes (standing_of R.Disk (start_of self.lock).book (start_of self.lock).moment) (standing_of R.Disk result.0 (Some now)) now lanes.now }
         ensures block { IfOk result.1 (λ outs. IsBlock (standing_of R.Disk (start_of self.lock).book (start_of self.lock).moment) (standing_of R.Disk result.0 (Some now)) now lanes.now outs.items) }
@@ -238,6 +239,14 @@ impl<G: GraphStore + Send, R: Rig + Send> Service<G, R> {
     }
 }
 
+// The book without its claims.
+fn unclaimed<G: GraphStore, R: Rig>(mut book: Book<G, R>) -> Book<G, R>
+    ensures { result ≡ record book { held = [] } }
+{
+    book.forget();
+    book
+}
+
 /// Runs at most 16 lanes at once over the book, each with a seat of its own and on a thread of its own, where the clock
 /// says `now`, and tells the gate of each accepted call. At most 16 workers run beside them, each with a seat and a thread
 /// of its own too: a worker makes turns of `Service::work`, and tells the gate of each step, until there is no step and no
@@ -248,7 +257,8 @@ impl<G: GraphStore + Send, R: Rig + Send> Service<G, R> {
 /// once and in their order. A lane ends at its end, or at a call that wanted memory. An `Err` is want of memory for the
 /// block, for a payload that was asked for or for one of the last steps; the book then has what lanes and workers did so
 /// far, and the replies are lost: there were some, by which its entries are told as with `Ok`. A worker that wanted memory for
-/// a step ends, and the last steps decide. The book is of the kind that it was, opened as it was.
+/// a step ends, and the last steps decide. The book is of the kind that it was, opened as it
+/// was, and no claim is held by it.
 pub fn run_lanes<W: Threads + Wait + Sync, G: GraphStore + Send, R: Rig + Send, Q: Gate + Sync>(
     rt: &W,
     alloc: Global,
@@ -262,6 +272,7 @@ pub fn run_lanes<W: Threads + Wait + Sync, G: GraphStore + Send, R: Rig + Send, 
     requires few { length lanes.now ≤ 16 }
     requires workers { workers ≤ 16 }
     requires numbers { (k i : ℕ) (c : Commanded) → slice_get (commands_at lanes.now k) i ≡ Some c → HasCommand book.rules c }
+    ensures none { result.0.held ≡ [] }
     ensures kept { HasLanes (standing_of R.Disk book (Some now)) (standing_of R.Disk result.0 (Some now)) (length lanes.now) }
     ensures told { AreToldLanes (standing_of R.Disk book (Some now)) (standing_of R.Disk result.0 (Some now)) now lanes.now }
     ensures block { IfOk result.1 (λ outs. IsBlock (standing_of R.Disk book (Some now)) (standing_of R.Disk result.0 (Some now)) now lanes.now outs.items) }
@@ -270,10 +281,10 @@ pub fn run_lanes<W: Threads + Wait + Sync, G: GraphStore + Send, R: Rig + Send, 
     book.standing();
     let rows = lanes.len() + workers as usize;
     let Ok(room) = room_for(alloc, lanes, rows) else {
-        return (book, Err(AllocError));
+        return (unclaimed(book), Err(AllocError));
     };
     match Service::with_lanes(alloc, book, Some(now), lanes.len() as u8) {
         Ok((service, root)) => service.run_block(rt, alloc, root, now, lanes, turns, gate, room),
-        Err(book) => (book, Err(AllocError)),
+        Err(book) => (unclaimed(book), Err(AllocError)),
     }
 }

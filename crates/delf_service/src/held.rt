@@ -1,17 +1,17 @@
 //! The book as the turn lock guards it, and what one turn does to it.
-ghost use Rattle.std.specs.Prelude.{◌≡◌, ◌*◌, ◌+◌, ◌-◌, ◌≤◌, Some, OnOk, length};
+ghost use Rattle.std.specs.Prelude.{◌≡◌, ◌*◌, ◌+◌, ◌-◌, ◌≤◌, [], Some, OnOk, length};
 ghost use Rattle.delf_book.specs.Books.{HasNumbers};
 ghost use Rattle.delf_service.specs.Standings.{seat_of, standing_in, blank_standing};
 ghost use Rattle.delf_service.specs.Follows.{Follows};
 ghost use Rattle.delf_service.specs.FollowLaws.{Follows-itself, Follows-chain, Follows-grows};
 ghost use Rattle.delf_service.specs.Calls.{CallsIn};
 ghost use Rattle.delf_service.specs.Asks.{AsksIn, down_fault};
-ghost use Rattle.delf_service.specs.Works.{TurnsIn};
+ghost use Rattle.delf_service.specs.Works.{BeginsIn, EndsIn, IsLast, MeetsFirst, TurnsIn, step_fault};
 ghost use Rattle.delf_service.specs.Blocks.{IsBehind, Rests};
 
-use crate::answers::{Answer, Asked, Turned};
+use crate::answers::{Answer, Asked, Began, Turned};
 use crate::standing::Standing;
-use delf_book::{Book, BookFault, StepFault, Worked};
+use delf_book::{Begun, Book, BookFault, Prepared, StepFault, Worked};
 use delf_disk::Rig;
 use delf_model::{Call, Entry, GraphStore, LIMIT, Moment, ObjectId};
 use seat_lock::Counted;
@@ -34,6 +34,26 @@ fn fault_if(down: bool, len: u32) -> Option<BookFault>
         Some(BookFault::Down { len })
     } else {
         None
+    }
+}
+
+// The fault of the step of a claim, as one of a step.
+fn fault_of(fault: BookFault) -> StepFault
+    ensures { result ≡ step_fault fault }
+{
+    match fault {
+        BookFault::Down { len } => StepFault::Down { len },
+        BookFault::DiskFault { len } => StepFault::DiskFault { len },
+    }
+}
+
+// What the last steps end with at this fault of one. The only error is want of memory.
+fn last(fault: &StepFault) -> Result<(), AllocError>
+    ensures { OnOk result (IsLast fault.now) }
+{
+    match fault {
+        StepFault::OutOfMemory => Err(AllocError),
+        _ => Ok(()),
     }
 }
 
@@ -102,9 +122,62 @@ impl<G: GraphStore, R: Rig> Held<G, R> {
         (asked, bytes)
     }
 
-    // A step of a worker.
+    // The first half of a turn of a worker: a step that is made at once, or a claimed row. Where each legal step is claimed, all
+    // claims are given up, and a step of the serial order is made.
+    pub(crate) fn begin(&mut self, now: Moment) -> Began
+        ensures { BeginsIn (standing_in R.Disk self.old.book self.old.moment self.old.lanes) (standing_in R.Disk self.new.book self.new.moment self.new.lanes) now result }
+    {
+        let _len = self.book.len();
+        self.book.standing();
+        let outcome = self.book.begin(now);
+        self.book.standing();
+        match outcome {
+            Ok(Begun::Stepped { position }) => Began::Over(Ok(Turned::Stepped { position })),
+            Ok(Begun::Claimed(claim)) => Began::Claimed(claim),
+            Ok(Begun::Idle { len }) => Began::Over(Ok(Turned::Idle { len })),
+            Ok(Begun::Held { .. }) => Began::Over(self.work(now)),
+            Err(fault) => Began::Over(Err(fault)),
+        }
+    }
+
+    // The second half: the step of the claim, whose record was made. None where the claim was given up meanwhile.
+    pub(crate) fn end(
+        &mut self,
+        now: Moment,
+        prepared: Prepared,
+    ) -> Option<Result<Turned, StepFault>>
+        ensures { EndsIn (standing_in R.Disk self.old.book self.old.moment self.old.lanes) (standing_in R.Disk self.new.book self.new.moment self.new.lanes) now result }
+    {
+        let _len = self.book.len();
+        self.book.standing();
+        let _claims = self.book.claims();
+        if !self.book.holds(prepared.claim()) {
+            return None;
+        }
+        let outcome = self.book.finish(now, prepared);
+        self.book.standing();
+        match outcome {
+            Ok(position) => Some(Ok(Turned::Stepped { position })),
+            Err(fault) => Some(Err(fault_of(fault))),
+        }
+    }
+
+    // The first step of the serial order, whatever was claimed.
     pub(crate) fn work(&mut self, now: Moment) -> Result<Turned, StepFault>
-        ensures { TurnsIn (standing_in R.Disk self.old.book self.old.moment self.old.lanes) (standing_in R.Disk self.new.book self.new.moment self.new.lanes) now result }
+        ensures turns { TurnsIn (standing_in R.Disk self.old.book self.old.moment self.old.lanes) (standing_in R.Disk self.new.book self.new.moment self.new.lanes) now result }
+        ensures first { MeetsFirst (standing_in R.Disk self.old.book self.old.moment self.old.lanes) now result }
+        ensures none { self.new.book.held ≡ [] }
+    {
+        self.book.forget();
+        self.step(now)
+    }
+
+    // The same, where nothing is claimed.
+    fn step(&mut self, now: Moment) -> Result<Turned, StepFault>
+        requires { self.old.book.held ≡ [] }
+        ensures turns { TurnsIn (standing_in R.Disk self.old.book self.old.moment self.old.lanes) (standing_in R.Disk self.new.book self.new.moment self.new.lanes) now result }
+        ensures first { MeetsFirst (standing_in R.Disk self.old.book self.old.moment self.old.lanes) now result }
+        ensures none { self.new.book.held ≡ [] }
     {
         let _len = self.book.len();
         self.book.standing();
@@ -115,15 +188,6 @@ impl<G: GraphStore, R: Rig> Held<G, R> {
             Ok(Worked::Idle { len }) => Ok(Turned::Idle { len }),
             Err(fault) => Err(fault),
         }
-    }
-
-    // A step of a worker of a block, and how many lanes are left.
-    pub(crate) fn turn(&mut self, now: Moment) -> (Result<Turned, StepFault>, u8)
-        ensures step { TurnsIn (standing_in R.Disk self.old.book self.old.moment self.old.lanes) (standing_in R.Disk self.new.book self.new.moment self.new.lanes) now result.0 }
-        ensures lanes { result.1 ≡ self.new.lanes }
-    {
-        let outcome = self.work(now);
-        (outcome, self.lanes)
     }
 
     // One lane less is left.
@@ -138,6 +202,7 @@ impl<G: GraphStore, R: Rig> Held<G, R> {
         requires moment { self.old.moment ≡ Some now }
         ensures moment { self.new.moment ≡ self.old.moment }
         ensures behind { IsBehind (standing_in R.Disk self.old.book self.old.moment self.old.lanes) (standing_in R.Disk self.new.book self.new.moment self.new.lanes) }
+        ensures none { self.new.book.held ≡ [] }
         ensures rests { OnOk result (Rests (standing_in R.Disk self.new.book self.new.moment self.new.lanes) now) }
     {
         loop {
@@ -145,9 +210,11 @@ impl<G: GraphStore, R: Rig> Held<G, R> {
             let _len = self.book.len();
             self.book.standing();
             match outcome {
-                Ok(Turned::Stepped { .. }) => {}
-                Err(StepFault::OutOfMemory) => return Err(AllocError),
-                _ => return Ok(()),
+                Ok(turned) => match turned {
+                    Turned::Stepped { .. } => {}
+                    Turned::Idle { .. } => return Ok(()),
+                },
+                Err(fault) => return last(&fault),
             }
         }
     }

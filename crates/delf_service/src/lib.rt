@@ -1,9 +1,9 @@
 //! One book for many seats: writers and workers take turns at it on threads, and one legal history comes out of it,
 //! whatever their order.
 //!
-//! A step of a worker is made whole in one turn, so its digest is computed while the others wait: `Gate` has `after`
-//! alone, and `work` holds no claim between two turns. `run_lanes` runs lanes at once with workers beside them, and then
-//! makes the steps that are left.
+//! A worker claims the row of a cut or an erasure in one turn and makes the step in another: in between, without the turn,
+//! `Gate::between` makes the record, so its digest is computed while others have the turn. `run_lanes` runs lanes at once
+//! with workers beside them, and then makes the steps that are left.
 #![tactic(auto)]
 
 mod answers;

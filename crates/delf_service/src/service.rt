@@ -1,5 +1,5 @@
 //! One book, and the seats at it.
-ghost use Rattle.std.specs.Prelude.{◌≡◌, ℕ, ◌+◌, ◌*◌, ◌<◌, ◌≤◌, ◌++◌, length, IfOk, IfErr, IsOkAnd, None, Option, Some, map, slice_get};
+ghost use Rattle.std.specs.Prelude.{◌≡◌, ℕ, ◌+◌, ◌*◌, ◌<◌, ◌≤◌, ◌++◌, [], length, IfOk, IfErr, IsOkAnd, None, Option, Some, map, slice_get};
 ghost use Rattle.delf_model.specs.declared.TheConstants.{LIMIT};
 ghost use Rattle.delf_book.specs.Books.{HasNumbers};
 ghost use Rattle.seat_lock.specs.Views.{IsSameSeat, IsRoot, CanSplit, split_root, split_off, out_of};
@@ -11,17 +11,20 @@ ghost use Rattle.delf_service.specs.Seats.{Starts, JoinedTo, Closed};
 ghost use Rattle.delf_service.specs.Standings.{standing_in, standing_of};
 ghost use Rattle.delf_service.specs.Turns.{Keeps};
 ghost use Rattle.delf_service.specs.Workers.{LeavesOne, one_left};
-ghost use Rattle.delf_service.specs.Works.{TurnsIn, Worked};
+ghost use Rattle.delf_service.specs.Works.{BeginsIn, BeginsTurn, EndsIn, EndsTurn, TurnsIn, Worked};
 
-use crate::answers::{Answer, Asked, Turned};
+use crate::answers::{Answer, Asked, Began, Turned};
 use crate::gate::Gate;
 use crate::held::Held;
-use delf_book::{Book, StepFault};
+use delf_book::{Book, Prepared, StepFault};
 use delf_disk::Rig;
 use delf_model::{Call, GraphStore, LIMIT, Moment, ObjectId};
 use seat_lock::SeatLock;
 use std::alloc::{AllocError, Global};
 use std::sync::Wait;
+
+// How often a turn claims a row anew behind a claim that was given up.
+const ROUNDS: u32 = 8;
 
 /// A seat at a service: the root, or one that was opened from it.
 pub type Seat<G, R> = seat_lock::Seat<Held<G, R>>;
@@ -130,8 +133,10 @@ impl<G: GraphStore, R: Rig> Service<G, R> {
         asked
     }
 
-    /// Waits for the turn, makes the first step of the serial order, where the clock says `now`, and tells the gate of
-    /// it without the turn.
+    /// Waits for the turn, and makes a legal step, where the clock says `now`. Of a cut or an erasure the row is claimed, its
+    /// record is made without the turn, and the step in another turn, where nobody gave the claim up meanwhile. Where each
+    /// legal step is claimed, all claims are given up, and the first step of the serial order is made. The gate is told of
+    /// the step without the turn.
     pub fn work<W: Wait, Q: Gate>(
         &self,
         rt: &W,
@@ -163,18 +168,128 @@ impl<G: GraphStore, R: Rig> Service<G, R> {
         ensures turn { Worked (view seat.old) (view seat.new) now result.0 }
         ensures lanes { result.1 ≡ (view seat.new).seen.state.lanes }
     {
-        let (outcome, lanes) = self.lock.with(
+        let (outcome, lanes) = self.step(rt, seat, now, gate);
+        if let Ok(Turned::Stepped { position }) = outcome {
+            gate.after(position);
+        }
+        (outcome, lanes)
+    }
+
+    // The same, where the gate is not told yet. After so many claims that others gave up, it makes a step in one turn.
+    fn step<W: Wait, Q: Gate>(
+        &self,
+        rt: &W,
+        seat: &mut Seat<G, R>,
+        now: Moment,
+        gate: &Q,
+    ) -> (Result<Turned, StepFault>, u8)
+        requires ours { IsOf self.now.lock seat.old }
+        requires moment { IsMoment (view seat.old).seen.state.key now }
+        ensures ours { IsOf self.now.lock seat.new }
+        ensures same { IsSameSeat (view seat.old) (view seat.new) × ((view seat.new).made ≡ (view seat.old).made) }
+        ensures turn { Worked (view seat.old) (view seat.new) now result.0 }
+        ensures lanes { result.1 ≡ (view seat.new).seen.state.lanes }
+    {
+        for _round in 0..ROUNDS {
+            let (outcome, lanes) = self.round(rt, seat, now, gate);
+            if let Some(outcome) = outcome {
+                return (outcome, lanes);
+            }
+        }
+        self.work_serially(rt, seat, now)
+    }
+
+    // Begins a step and ends it. None where its claim was given up meanwhile.
+    fn round<W: Wait, Q: Gate>(
+        &self,
+        rt: &W,
+        seat: &mut Seat<G, R>,
+        now: Moment,
+        gate: &Q,
+    ) -> (Option<Result<Turned, StepFault>>, u8)
+        requires ours { IsOf self.now.lock seat.old }
+        requires moment { IsMoment (view seat.old).seen.state.key now }
+        ensures ours { IsOf self.now.lock seat.new }
+        ensures same { IsSameSeat (view seat.old) (view seat.new) × ((view seat.new).made ≡ (view seat.old).made) }
+        ensures turn { EndsTurn (view seat.old) (view seat.new) now result.0 }
+        ensures lanes { result.1 ≡ (view seat.new).seen.state.lanes }
+    {
+        let (began, lanes) = self.begin(rt, seat, now);
+        match began {
+            Began::Over(outcome) => (Some(outcome), lanes),
+            Began::Claimed(claim) => {
+                let prepared = gate.between(claim);
+                self.end(rt, seat, now, prepared)
+            }
+        }
+    }
+
+    // Waits for the turn, and makes the first half of a step.
+    fn begin<W: Wait>(&self, rt: &W, seat: &mut Seat<G, R>, now: Moment) -> (Began, u8)
+        requires ours { IsOf self.now.lock seat.old }
+        requires moment { IsMoment (view seat.old).seen.state.key now }
+        ensures ours { IsOf self.now.lock seat.new }
+        ensures same { IsSameSeat (view seat.old) (view seat.new) × ((view seat.new).made ≡ (view seat.old).made) }
+        ensures turn { BeginsTurn (view seat.old) (view seat.new) now result.0 }
+        ensures lanes { result.1 ≡ (view seat.new).seen.state.lanes }
+    {
+        self.lock.with(
+            rt,
+            seat,
+            |held: &mut Held<G, R>| -> (Began, u8)
+                ensures step { BeginsIn (standing_in R.Disk held.old.book held.old.moment held.old.lanes) (standing_in R.Disk held.new.book held.new.moment held.new.lanes) now result.0 }
+                ensures lanes { result.1 ≡ held.new.lanes }
+            { (held.begin(now), held.lanes) },
+        )
+    }
+
+    // Waits for the turn, and makes the second half.
+    fn end<W: Wait>(
+        &self,
+        rt: &W,
+        seat: &mut Seat<G, R>,
+        now: Moment,
+        prepared: Prepared,
+    ) -> (Option<Result<Turned, StepFault>>, u8)
+        requires ours { IsOf self.now.lock seat.old }
+        requires moment { IsMoment (view seat.old).seen.state.key now }
+        ensures ours { IsOf self.now.lock seat.new }
+        ensures same { IsSameSeat (view seat.old) (view seat.new) × ((view seat.new).made ≡ (view seat.old).made) }
+        ensures turn { EndsTurn (view seat.old) (view seat.new) now result.0 }
+        ensures lanes { result.1 ≡ (view seat.new).seen.state.lanes }
+    {
+        self.lock.with(
+            rt,
+            seat,
+            |held: &mut Held<G, R>| -> (Option<Result<Turned, StepFault>>, u8)
+                ensures step { EndsIn (standing_in R.Disk held.old.book held.old.moment held.old.lanes) (standing_in R.Disk held.new.book held.new.moment held.new.lanes) now result.0 }
+                ensures lanes { result.1 ≡ held.new.lanes }
+            { (held.end(now, prepared), held.lanes) },
+        )
+    }
+
+    // Waits for the turn, and makes the first step of the serial order.
+    fn work_serially<W: Wait>(
+        &self,
+        rt: &W,
+        seat: &mut Seat<G, R>,
+        now: Moment,
+    ) -> (Result<Turned, StepFault>, u8)
+        requires ours { IsOf self.now.lock seat.old }
+        requires moment { IsMoment (view seat.old).seen.state.key now }
+        ensures ours { IsOf self.now.lock seat.new }
+        ensures same { IsSameSeat (view seat.old) (view seat.new) × ((view seat.new).made ≡ (view seat.old).made) }
+        ensures turn { Worked (view seat.old) (view seat.new) now result.0 }
+        ensures lanes { result.1 ≡ (view seat.new).seen.state.lanes }
+    {
+        self.lock.with(
             rt,
             seat,
             |held: &mut Held<G, R>| -> (Result<Turned, StepFault>, u8)
                 ensures step { TurnsIn (standing_in R.Disk held.old.book held.old.moment held.old.lanes) (standing_in R.Disk held.new.book held.new.moment held.new.lanes) now result.0 }
                 ensures lanes { result.1 ≡ held.new.lanes }
-            { held.turn(now) },
-        );
-        if let Ok(Turned::Stepped { position }) = outcome {
-            gate.after(position);
-        }
-        (outcome, lanes)
+            { (held.work(now), held.lanes) },
+        )
     }
 
     // Waits for the turn, and says that one lane less is left.
@@ -194,24 +309,26 @@ impl<G: GraphStore, R: Rig> Service<G, R> {
         );
     }
 
-    /// Ends the service, and gives the book back. The seats are all that were opened and not joined, each once. It waits
+    /// Ends the service, and gives the book back, which holds no claim. The seats are all that were opened and not joined, each once. It waits
     /// for nobody.
     pub fn close(self, root: Seat<G, R>, seats: Vec<Seat<G, R>>) -> Book<G, R>
         requires ours { IsOf self.lock root }
         requires each { (k : ℕ) (s : _) → slice_get seats.items k ≡ Some s → IsOf self.lock s }
         requires root { IsRoot (view root) }
         requires all { out_of (view root) ≡ length seats.items }
-        ensures { (moment : Option ℕ) × Closed (standing_in R.Disk (start_of self.lock).book (start_of self.lock).moment (start_of self.lock).lanes) (view root) (map (λ s. view s) seats.items) (standing_of R.Disk result moment) }
+        ensures none { result.held ≡ [] }
+        ensures closed { (moment : Option ℕ) × Closed (standing_in R.Disk (start_of self.lock).book (start_of self.lock).moment (start_of self.lock).lanes) (view root) (map (λ s. view s) seats.items) (standing_of R.Disk result moment) }
     {
         let Service { lock } = self;
         let root = join_all(&lock, root, seats);
         let Held {
-            book,
+            mut book,
             moment: _,
             lanes: _,
         } = lock.close(root);
         let _len = book.len();
         book.standing();
+        book.forget();
         book
     }
 }

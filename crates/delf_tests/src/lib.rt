@@ -6,6 +6,8 @@ mod checks;
 #[cfg(test)]
 mod choices;
 #[cfg(test)]
+mod claims;
+#[cfg(test)]
 mod limits;
 #[cfg(test)]
 mod loads;
@@ -19,3 +21,5 @@ mod rows;
 mod runs;
 #[cfg(test)]
 mod scans;
+#[cfg(test)]
+mod stops;

@@ -12,19 +12,17 @@ const PHOTOS: &str =
     "schema 1\nwindow 100\nobject user directly\nobject photo by_any\nobject album directly\nobject session short_ttl 60\nedge owns user photo deep\nedge likes user photo shallow\nedge holds album photo refcount\nedge uses user session deep\nscript\n";
 
 // A user and its photo are made, linked, and deleted.
-const DELETION: &str =
+pub(crate) const DELETION: &str =
     "create 1 user \"a\"\ncreate 2 photo \"b\"\nlink owns 1 2\ndelete 1 job 40\n";
 
-const DELETED: &str = "0 created 1\n1 created 2\n2 linked owns 1 2\n3 deleting 1 job 40\n";
+pub(crate) const DELETED: &str =
+    "0 created 1\n1 created 2\n2 linked owns 1 2\n3 deleting 1 job 40\n";
 
-// All writes that were not synced are whole.
-const ALL_WRITES: u64 = 6_148_914_691_236_517_205;
-
-fn blank(alloc: Global) -> Result<MemDisk, AllocError> {
+pub(crate) fn blank(alloc: Global) -> Result<MemDisk, AllocError> {
     of_bytes(alloc, &[], &[])
 }
 
-fn of_bytes(alloc: Global, journal: &[u8], vault: &[u8]) -> Result<MemDisk, AllocError> {
+pub(crate) fn of_bytes(alloc: Global, journal: &[u8], vault: &[u8]) -> Result<MemDisk, AllocError> {
     MemDisk::of(
         alloc,
         DiskBytes::of(alloc, journal)?,
@@ -34,7 +32,7 @@ fn of_bytes(alloc: Global, journal: &[u8], vault: &[u8]) -> Result<MemDisk, Allo
 }
 
 // All bytes of an area.
-fn bytes_in(alloc: Global, disk: &mut MemDisk, area: Area) -> Result<Vec<u8>, Fail> {
+pub(crate) fn bytes_in(alloc: Global, disk: &mut MemDisk, area: Area) -> Result<Vec<u8>, Fail> {
     let len = disk.len(area)?;
     let mut bytes = vec![in alloc; 0u8; len as usize]?;
     disk.read(area, 0, &mut bytes)?;
@@ -42,7 +40,7 @@ fn bytes_in(alloc: Global, disk: &mut MemDisk, area: Area) -> Result<Vec<u8>, Fa
 }
 
 // Runs the script from a moment on, over this disk.
-fn run_from(
+pub(crate) fn run_from(
     alloc: Global,
     moment: &str,
     script: &str,
@@ -72,7 +70,7 @@ fn run_from(
 }
 
 // That the script ends so and prints this text; the disk that it leaves.
-fn ends(
+pub(crate) fn ends(
     rt: &impl Abort,
     alloc: Global,
     script: &str,
@@ -87,7 +85,7 @@ fn ends(
 }
 
 // A store in which the deletion was carried out, and what its areas hold.
-fn carried_out(rt: &impl Abort, alloc: Global) -> Result<(Vec<u8>, Vec<u8>), Fail> {
+pub(crate) fn carried_out(rt: &impl Abort, alloc: Global) -> Result<(Vec<u8>, Vec<u8>), Fail> {
     let script = format!(in alloc; "{DELETION}work 10\nshow\n")?;
     let text = format!(in alloc; "{DELETED}work 3 idle\ngraph 0 0\n")?;
     let mut disk = ends(rt, alloc, &script, blank(alloc)?, Status::Done, &text)?;
@@ -166,50 +164,6 @@ fn a_torn_gate_leaves_the_entry_or_not(rt: HostRuntime) -> Result<(), Fail> {
     Ok(())
 }
 
-// That the deletion, stopped by this failing call and cut by this pick, goes on from this length to its end.
-fn stops(
-    rt: &impl Abort,
-    alloc: Global,
-    call: u32,
-    pick: u64,
-    made: u32,
-    opened: u32,
-) -> Result<(), Fail> {
-    let script = format!(in alloc;
-        "{DELETION}fail {call}\nwork 10\ncrash {pick}\nwork 10\njob 40\nshow\n"
-    )?;
-    let down = made.saturating_add(4);
-    let left = 7u32.saturating_sub(opened);
-    let text = format!(in alloc;
-        "{DELETED}work {made} down at {down}\nopened {opened}\nwork {left} idle\njob 40 start 3 root 1 done erased 2 cut 1\ngraph 0 0\n"
-    )?;
-    ends(rt, alloc, &script, blank(alloc)?, Status::Done, &text)?;
-    Ok(())
-}
-
-#[test]
-fn a_deletion_stops_at_any_call_and_goes_on(rt: HostRuntime) -> Result<(), Fail> {
-    // The failing calls from one number to another, the steps made before, and the lengths found with none and with all of the
-    // writes.
-    let rows = [
-        (1, 6, 0, 4, 4),
-        (7, 8, 0, 4, 5),
-        (9, 15, 1, 5, 5),
-        (16, 17, 1, 5, 6),
-        (18, 18, 1, 6, 6),
-        (19, 25, 2, 6, 6),
-        (26, 27, 2, 6, 7),
-        (28, 28, 2, 7, 7),
-    ];
-    for (first, last, made, none, all) in rows {
-        for call in first..last + 1 {
-            stops(&rt, rt.alloc(), call, 0, made, none)?;
-            stops(&rt, rt.alloc(), call, ALL_WRITES, made, all)?;
-        }
-    }
-    Ok(())
-}
-
 // That a store of these bytes is none, by this place.
 fn is_bad(
     rt: &impl Abort,
@@ -230,7 +184,12 @@ fn is_bad(
 }
 
 // These bytes with another one at a place.
-fn changed(alloc: Global, bytes: &[u8], at: usize, byte: u8) -> Result<Vec<u8>, AllocError> {
+pub(crate) fn changed(
+    alloc: Global,
+    bytes: &[u8],
+    at: usize,
+    byte: u8,
+) -> Result<Vec<u8>, AllocError> {
     let mut changed = Vec::from_slice(alloc, bytes)?;
     if at < changed.len() {
         changed[at] = byte;
@@ -239,7 +198,7 @@ fn changed(alloc: Global, bytes: &[u8], at: usize, byte: u8) -> Result<Vec<u8>, 
 }
 
 // The first so many of the bytes.
-fn front(bytes: &[u8], len: usize) -> &[u8] {
+pub(crate) fn front(bytes: &[u8], len: usize) -> &[u8] {
     if len <= bytes.len() {
         &bytes[..len]
     } else {

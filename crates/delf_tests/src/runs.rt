@@ -8,7 +8,7 @@ use std::process::Abort;
 use std::test::Fail;
 
 // Users own photos and sessions, and like photos; albums hold photos.
-const PHOTOS: &str =
+pub(crate) const PHOTOS: &str =
     "schema 1\nwindow 100\nobject user directly\nobject photo by_any\nobject album directly\nobject session short_ttl 60\nedge owns user photo deep\nedge likes user photo shallow\nedge holds album photo refcount\nedge uses user session deep\nscript\n";
 
 pub fn run_words(

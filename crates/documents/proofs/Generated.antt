@@ -1,8 +1,9 @@
 -- The generated schema is checked, and the commands of a load have type numbers of it.
-use Rattle.std.proofs.Common.{◌≡◌, ℕ, zero, suc, ◌<◌, IsTrue, Option, None, Some, true, List, [], ◌∷◌, ◌++◌, map, refl, sym, ap, subst, inr, arith}
+use Rattle.std.proofs.Common.{◌≡◌, ℕ, zero, suc, ◌<◌, IsTrue, Option, None, Some, Bool, true, false, ◌≤◌, length, List, [], ◌∷◌, ◌++◌, map, get_or, refl, sym, ap, ◌∙◌, subst, inr, arith}
 use Rattle.std.specs.Prelude.{◌/◌, slice_get}
 use Rattle.std.specs.List.{All, flat_map, filter, range_with_len}
 use Rattle.std.proofs.lemmas.Bool.{false≢true}
+use Rattle.std.proofs.lemmas.List.{length-map}
 use Rattle.std.proofs.lemmas.List.Elements.{All-nil, All-cons, All-append}
 use Rattle.delf_model.specs.declared.schema.ObjectRule.TheVariants.{Directly, ByAny}
 use Rattle.delf_model.specs.declared.schema.EdgeRule.TheVariants.{Deep, Shallow, Refcount}
@@ -16,8 +17,9 @@ use Rattle.delf_model.specs.declared.script.LaneCommand.{LaneCommand}
 use Rattle.delf_model.specs.declared.script.LaneCommand.TheVariants as lane
 use Rattle.script_lang.specs.Generated.{generated_schema, generated_script, script_of_groups, restores_of, restored, lane_of, is_in_lane}
 use Rattle.script_lang.specs.TypeNumbers.{LaneCommandNames, LaneNames, CommandNames}
-use Rattle.documents.specs.Loads.{IsStill, made_alone, lane_alone, block_alone, made_in_turn, load_commands}
-use Rattle.documents.specs.Names.{HasNames, IsNumberedCommand}
+use Rattle.documents.specs.Loads.{IsStill, made_alone, lane_alone, block_alone, made_in_turn, load_commands, commands_of}
+use Rattle.documents.specs.Names.{HasNames, HasNoLanes, IsNumberedCommand}
+use Rattle.documents.proofs.Bounded.{HasFewLanes, single_few}
 use Rattle.documents.proofs.Documents.{numbered_commands}
 
 abbrev generated_rules : RuleSet
@@ -130,56 +132,82 @@ module _ (schema : Schema) where
       All-append (CommandNames schema) (flat_map lane_alone lanes) (Work 1000000 ∷ [])
       (all_lists (LaneNames schema) (CommandNames schema) lane_alone lane_named lanes names) (one (Work 1000000) tt)
 
-  -- the numbers of a load are those of types that the schema has
-  pub load_numbered : (rules : RuleSet) (script commands : List Command) → HasNames schema rules → All (CommandNames schema) script →
-      commands ≡ load_commands script → All (IsNumberedCommand rules) commands
-  load_numbered rules script commands has names is =
-      subst (λ (cs : List Command). All (IsNumberedCommand rules) cs) (sym is)
-      (numbered_commands schema rules (load_commands script) has (all_lists (CommandNames schema) (CommandNames schema) made_in_turn turn_named script names))
+  -- the commands of a load have type numbers that the schema has
+  load_named : (blocks : Bool) (script : List Command) → All (CommandNames schema) script → All (CommandNames schema) (commands_of blocks script)
+  load_named true script names = names
+  load_named false script names = all_lists (CommandNames schema) (CommandNames schema) made_in_turn turn_named script names
 
 -- a load keeps the store open and gives no order
 
-alone_still : (command : LaneCommand) → IsStill (made_alone command)
-alone_still (lane.Submit asked) = tt
-alone_still (lane.Get id) = tt
+-- no block either
+abbrev IsAlone : Command → Type 0
+IsAlone command = IsStill command × HasNoLanes command
 
-lane_still : (lane : Lane) → All IsStill (lane_alone lane)
-lane_still lane = all_made (λ c. Unit {0}) IsStill made_alone (λ c t. alone_still c) lane.commands (λ k d below. tt)
+alone_alone : (command : LaneCommand) → IsAlone (made_alone command)
+alone_alone (lane.Submit asked) = (tt, tt)
+alone_alone (lane.Get id) = (tt, tt)
 
-one_still : (command : Command) → IsStill command → All IsStill (command ∷ [])
-one_still command still = All-cons IsStill command [] still (All-nil IsStill)
+lane_is_alone : (lane : Lane) → All IsAlone (lane_alone lane)
+lane_is_alone lane = all_made (λ c. Unit {0}) IsAlone made_alone (λ c t. alone_alone c) lane.commands (λ k d below. tt)
 
-block_still : (lanes : List Lane) → All IsStill (block_alone lanes)
-block_still lanes =
-    All-append IsStill (flat_map lane_alone lanes) (Work 1000000 ∷ []) (all_lists (λ l. Unit {0}) IsStill lane_alone (λ l t. lane_still l) lanes (λ k d below. tt))
-    (one_still (Work 1000000) tt)
+one_alone : (command : Command) → IsAlone command → All IsAlone (command ∷ [])
+one_alone command is = All-cons IsAlone command [] is (All-nil IsAlone)
 
--- a block, or a command that is still
-abbrev IsCalm : Command → Type 0
-IsCalm (Par quiet workers turns lanes) = Unit {0}
-IsCalm other = IsStill other
+block_is_alone : (lanes : List Lane) → All IsAlone (block_alone lanes)
+block_is_alone lanes =
+    All-append IsAlone (flat_map lane_alone lanes) (Work 1000000 ∷ []) (all_lists (λ l. Unit {0}) IsAlone lane_alone (λ l t. lane_is_alone l) lanes (λ k d below. tt))
+    (one_alone (Work 1000000) (tt, tt))
 
-turn_still : (command : Command) → IsCalm command → All IsStill (made_in_turn command)
-turn_still (Submit asked) calm = one_still (Submit asked) calm
-turn_still (Work n) calm = one_still (Work n) calm
-turn_still (Tick n) calm = one_still (Tick n) calm
-turn_still (Get id) calm = one_still (Get id) calm
-turn_still Show calm = one_still Show calm
-turn_still (Job name) calm = one_still (Job name) calm
-turn_still Jobs calm = one_still Jobs calm
-turn_still Report calm = one_still Report calm
-turn_still (Fail n) calm = absurd calm
-turn_still (Crash pick) calm = absurd calm
-turn_still (Par quiet workers turns lanes) calm = block_still lanes
+turn_alone : (command : Command) → IsStill command → All IsAlone (made_in_turn command)
+turn_alone (Submit asked) still = one_alone (Submit asked) (tt, tt)
+turn_alone (Work n) still = one_alone (Work n) (tt, tt)
+turn_alone (Tick n) still = one_alone (Tick n) (tt, tt)
+turn_alone (Get id) still = one_alone (Get id) (tt, tt)
+turn_alone Show still = one_alone Show (tt, tt)
+turn_alone (Job name) still = one_alone (Job name) (tt, tt)
+turn_alone Jobs still = one_alone Jobs (tt, tt)
+turn_alone Report still = one_alone Report (tt, tt)
+turn_alone (Fail n) still = absurd still
+turn_alone (Crash pick) still = absurd still
+turn_alone (Par quiet workers turns lanes) still = block_is_alone lanes
 
-restores_calm : (groups : ℕ) → All IsCalm (restores_of groups)
-restores_calm groups = all_made (λ group. Unit {0}) IsCalm restored (λ group t. tt) (filter (is_in_lane 0) (range_with_len 0 groups)) (λ k d below. tt)
+-- and each block of it has few lanes
 
-script_calm : (groups : ℕ) → All IsCalm (script_of_groups groups)
-script_calm groups =
-    All-cons IsCalm (Par true 8 1000000 (map (lane_of groups) (range_with_len 0 8))) (restores_of groups ++ Work 1000000 ∷ []) tt
-    (All-append IsCalm (restores_of groups) (Work 1000000 ∷ []) (restores_calm groups) (All-cons IsCalm (Work 1000000) [] tt (All-nil IsCalm)))
+abbrev IsFine : Command → Type 0
+IsFine command = IsStill command × HasFewLanes command
 
-pub load_still : (n : ℕ) (commands : List Command) → commands ≡ load_commands (generated_script n) → All IsStill commands
-load_still n commands is =
-    subst (λ (cs : List Command). All IsStill cs) (sym is) (all_lists IsCalm IsStill made_in_turn turn_still (generated_script n) (script_calm (n / 4)))
+restores_fine : (groups : ℕ) → All IsFine (restores_of groups)
+restores_fine groups = all_made (λ group. Unit {0}) IsFine restored (λ group t. (tt, tt)) (filter (is_in_lane 0) (range_with_len 0 groups)) (λ k d below. tt)
+
+lanes_fine : (groups : ℕ) → IsFine (Par true 8 1000000 (map (lane_of groups) (range_with_len 0 8)))
+lanes_fine groups = (tt, (omega (arith, length-map (range_with_len 0 8) (lane_of groups)), omega arith))
+
+script_fine : (groups : ℕ) → All IsFine (script_of_groups groups)
+script_fine groups =
+    All-cons IsFine (Par true 8 1000000 (map (lane_of groups) (range_with_len 0 8))) (restores_of groups ++ Work 1000000 ∷ []) (lanes_fine groups)
+    (All-append IsFine (restores_of groups) (Work 1000000 ∷ []) (restores_fine groups) (All-cons IsFine (Work 1000000) [] (tt, tt) (All-nil IsFine)))
+
+script_still : (groups : ℕ) → All IsStill (script_of_groups groups)
+script_still groups = λ k d below. (script_fine groups k d below).0
+
+load_alone : (n : ℕ) → All IsAlone (load_commands (generated_script n))
+load_alone n = all_lists IsStill IsAlone made_in_turn turn_alone (generated_script n) (script_still (n / 4))
+
+load_fine : (blocks : Bool) (n : ℕ) → All IsFine (commands_of blocks (generated_script n))
+load_fine true n = script_fine (n / 4)
+load_fine false n = λ k d below.
+    let alone = load_alone n k d below in (alone.0, single_few (get_or (load_commands (generated_script n)) k d) alone.1)
+
+pub load_still : (blocks : Bool) (n : ℕ) (commands : List Command) → commands ≡ commands_of blocks (generated_script n) → All IsStill commands
+load_still blocks n commands is = subst (λ (cs : List Command). All IsStill cs) (sym is) (λ k d below. (load_fine blocks n k d below).0)
+
+pub load_laneless : (blocks : Bool) (n : ℕ) (commands : List Command) → blocks ≡ false → commands ≡ commands_of blocks (generated_script n) → All HasNoLanes commands
+load_laneless blocks n commands without is =
+    subst (λ (cs : List Command). All HasNoLanes cs) (sym (is ∙ ap (λ (b : Bool). commands_of b (generated_script n)) without)) (λ k d below. (load_alone n k d below).1)
+
+pub load_numbered : (schema : Schema) (blocks : Bool) (n : ℕ) (rules : RuleSet) (script commands : List Command) → HasNames schema rules → All (CommandNames schema) script →
+    script ≡ generated_script n → commands ≡ commands_of blocks script → All (IsNumberedCommand rules) commands
+load_numbered schema blocks n rules script commands has names is_script is =
+    subst (λ (cs : List Command). All (IsNumberedCommand rules) cs) (sym is)
+    (numbered_commands schema rules (commands_of blocks script) has (load_named schema blocks script names)
+    (subst (λ (s : List Command). All HasFewLanes (commands_of blocks s)) (sym is_script) (λ k d below. (load_fine blocks n k d below).1)))

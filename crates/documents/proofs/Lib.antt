@@ -1,3 +1,4 @@
+pub mod Bounded
 pub mod Documents
 pub mod Generated
 pub mod Once

@@ -1,5 +1,5 @@
 -- Where blocks are not served, no command of a script is a block of lanes.
-use Rattle.std.proofs.Common.{◌≡◌, ℕ, Bool, true, false, cond, Option, Some, None, Result, Ok, Err, List, [], ◌∷◌, refl, sym, subst, codes}
+use Rattle.std.proofs.Common.{◌≡◌, ℕ, Bool, true, false, cond, Option, Some, None, Result, Ok, Err, List, [], ◌∷◌, refl, sym, ap, ◌∙◌, subst, codes}
 use Rattle.std.specs.Prelude.{IfOk}
 use Rattle.std.specs.List.{All}
 use Rattle.std.specs.Str.{bytes_eq}
@@ -28,10 +28,10 @@ use Rattle.documents.specs.Names.{HasNoLanes}
 
 -- a line on its own
 
-abbrev IsSingle : Result Command Wrong → Type 0
+abbrev pub IsSingle : Result Command Wrong → Type 0
 IsSingle read = IfOk read HasNoLanes
 
-either : {A : Type 0} (P : A → Type 0) (b : Bool) (x y : A) → P x → P y → P (cond b x y)
+pub either : {A : Type 0} (P : A → Type 0) (b : Bool) (x y : A) → P x → P y → P (cond b x y)
 either P true x y one other = one
 either P false x y one other = other
 
@@ -43,7 +43,7 @@ module _ {A : Type 0} (make : A → Command) (single : (x : A) → HasNoLanes (m
   or_single : (b : Bool) (read : Result A Wrong) (other : Result Command Wrong) → IsSingle other → IsSingle (cond b (mapped make read) other)
   or_single b read other is = either IsSingle b (mapped make read) other (made_single read) is
 
-serial_single : (keyword : List ℕ) (words : List Word) → IsSingle (serial_line keyword words)
+pub serial_single : (keyword : List ℕ) (words : List Word) → IsSingle (serial_line keyword words)
 serial_single keyword words =
     or_single (λ n. Work n) (λ n. tt) (bytes_eq keyword (codes "work")) (one_number 1 1000000 words) _
     (or_single (λ n. Tick n) (λ n. tt) (bytes_eq keyword (codes "tick")) (one_number 1 999999999999 words) _
@@ -124,7 +124,8 @@ module _ (schema : Schema) where
       then (behind_line schema false number reading (line_of line)) (script_from schema false rest (line_after number)) (after number reading (line_of line) so_far)
       (λ next is. unblocked_from rest (line_after number) next is)
 
-  pub unblocked : (script : List (List ℕ)) (first : ℕ) (commands : List Command) → script_of schema false script first ≡ Ok commands → All HasNoLanes commands
-  unblocked script first commands is =
-      subst (λ (read : Result (List Command) Fault). IfOk read (All HasNoLanes)) is
+  pub unblocked : (blocks : Bool) (script : List (List ℕ)) (first : ℕ) (commands : List Command) → blocks ≡ false → script_of schema blocks script first ≡ Ok commands →
+      All HasNoLanes commands
+  unblocked blocks script first commands without is =
+      subst (λ (read : Result (List Command) Fault). IfOk read (All HasNoLanes)) (ap (λ (b : Bool). script_of schema b script first) (sym without) ∙ is)
       (unblocked_from script first nothing_read (record { place = refl; commands = All-nil HasNoLanes }))

@@ -59,7 +59,7 @@ pub record AreRulesOf (schema : Schema) (rules : RuleSet) : Type 0 where
   pub rules_are : rules ≡ numbered schema
 
 -- the bytes are a document, and `check` prints this text of its schema
-pub record ChecksAs (bytes text : List ℕ) : Type 0 where
+pub record ChecksAs (blocks : Bool) (bytes text : List ℕ) : Type 0 where
   pub document : Document
-  pub read : IsDocument bytes document
+  pub read : IsDocument blocks bytes document
   pub told : IsCheckText document.schema text

@@ -21,14 +21,14 @@ pub record HasPart (bytes : List ℕ) (part : grammar.Part) : Type 0 where
   pub size : length bytes ≤ 16777216
   pub spelled : grammar.part_of (lines bytes) ≡ Ok part
 
--- the bytes are this document: its schema is checked, and each line behind the schema part is a command
-pub record IsDocument (bytes : List ℕ) (document : Document) : Type 0 where
+-- the bytes are this document: its schema is checked, and each line behind the schema part is a command, or with `blocks` one of a block
+pub record IsDocument (blocks : Bool) (bytes : List ℕ) (document : Document) : Type 0 where
   pub part : grammar.Part
   pub has : HasPart bytes part
   pub schema : part.schema ≡ document.schema
   pub checked : IsChecked document.schema
   pub rules : document.rules ≡ numbered document.schema
-  pub script : script_of document.schema false part.rest part.next ≡ Ok document.commands
+  pub script : script_of document.schema blocks part.rest part.next ≡ Ok document.commands
 
 -- the row that breaks a rule is one of the schema
 abbrev pub IsThere : Schema → Broken → Type 0
@@ -70,28 +70,28 @@ abbrev pub broken_fault : Schema → Broken → Fault
 broken_fault schema broken = record { line = broken_line schema broken; text = broken_text schema broken }
 
 -- the fault of these bytes that is tried first: their number, the schema part, its check, the script
-pub data IsFault (bytes : List ℕ) (fault : Fault) : Type 0 where
-  TooLong : 16777216 < length bytes → fault ≡ record { line = 0; text = codes "document too long" } → IsFault bytes fault
+pub data IsFault (blocks : Bool) (bytes : List ℕ) (fault : Fault) : Type 0 where
+  TooLong : 16777216 < length bytes → fault ≡ record { line = 0; text = codes "document too long" } → IsFault blocks bytes fault
   InPart : (found : grammar.Fault) → length bytes ≤ 16777216 → grammar.part_of (lines bytes) ≡ Err found → fault ≡ schema_fault found →
-      IsFault bytes fault
+      IsFault blocks bytes fault
   InCheck : (part : grammar.Part) (broken : Broken) → HasPart bytes part → IsFirstBroken part.schema broken →
-      fault ≡ broken_fault part.schema broken → IsFault bytes fault
-  InScript : (part : grammar.Part) → HasPart bytes part → IsChecked part.schema → script_of part.schema false part.rest part.next ≡ Err fault →
-      IsFault bytes fault
+      fault ≡ broken_fault part.schema broken → IsFault blocks bytes fault
+  InScript : (part : grammar.Part) → HasPart bytes part → IsChecked part.schema → script_of part.schema blocks part.rest part.next ≡ Err fault →
+      IsFault blocks bytes fault
 
 -- what is told of bytes that are no document
-abbrev pub IsToldFault : List ℕ → DocumentFault → Type 0
-IsToldFault bytes (Bad line text) = IsFault bytes (record { line = line; text = text })
-IsToldFault bytes OutOfMemory = Unit {0}
+abbrev pub IsToldFault : Bool → List ℕ → DocumentFault → Type 0
+IsToldFault blocks bytes (Bad line text) = IsFault blocks bytes (record { line = line; text = text })
+IsToldFault blocks bytes OutOfMemory = Unit {0}
 
 -- these bytes are some document, of which this holds
-pub record OfDocument (bytes : List ℕ) (P : Document → Type 0) : Type 0 where
+pub record OfDocument (blocks : Bool) (bytes : List ℕ) (P : Document → Type 0) : Type 0 where
   pub document : Document
-  pub read : IsDocument bytes document
+  pub read : IsDocument blocks bytes document
   pub holds : P document
 
 -- the first fault of these bytes has this line
-pub record HasFault (bytes : List ℕ) (line : ℕ) : Type 0 where
+pub record HasFault (blocks : Bool) (bytes : List ℕ) (line : ℕ) : Type 0 where
   pub fault : Fault
-  pub refused : IsFault bytes fault
+  pub refused : IsFault blocks bytes fault
   pub line_is : line ≡ fault.line

@@ -1,4 +1,4 @@
--- What a load makes: the generated script, where each block is made lane after lane. And how many jobs were restored.
+-- What a load makes: the generated script, where without `blocks` each block is made lane after lane. And how many jobs were restored.
 use Rattle.std.specs.Prelude.{◌≡◌, ℕ, Bool, true, false, List, [], ◌∷◌, ◌++◌, length, map, flat_map}
 use Rattle.std.specs.List.{filter}
 use Rattle.delf_model.specs.declared.call.JobLine.{JobLine}
@@ -42,23 +42,26 @@ made_in_turn (Par quiet workers turns lanes) = block_alone lanes
 abbrev pub load_commands : List Command → List Command
 load_commands script = flat_map made_in_turn script
 
+abbrev pub commands_of : Bool → List Command → List Command
+commands_of true script = script
+commands_of false script = load_commands script
+
 -- a command that keeps the store open and gives its disk no order
 abbrev pub IsStill : Command → Type 0
 IsStill (Fail n) = ⊥
 IsStill (Crash pick) = ⊥
-IsStill (Par quiet workers turns lanes) = ⊥
 IsStill other = Unit {0}
 
 -- what a load of so many objects makes, as a document would say it
-pub record IsLoad (n : ℕ) (document : Document) : Type 0 where
+pub record IsLoad (blocks : Bool) (n : ℕ) (document : Document) : Type 0 where
   pub schema : document.schema ≡ generated_schema
   pub rules : document.rules ≡ numbered generated_schema
-  pub commands : document.commands ≡ load_commands (generated_script n)
+  pub commands : document.commands ≡ commands_of blocks (generated_script n)
 
 -- what a load of n objects makes is some document, of which this holds
-pub record OfLoad (n : ℕ) (P : Document → Type 0) : Type 0 where
+pub record OfLoad (blocks : Bool) (n : ℕ) (P : Document → Type 0) : Type 0 where
   pub document : Document
-  pub load : IsLoad n document
+  pub load : IsLoad blocks n document
   pub holds : P document
 
 -- jobs that were restored

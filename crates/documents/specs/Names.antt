@@ -1,5 +1,5 @@
 -- The names of types and edge types by number, and which numbers in a script are those of types that the rules have.
-use Rattle.std.specs.Prelude.{◌≡◌, ◌<◌, ℕ, Option, Some, None, List, [], length, slice_get}
+use Rattle.std.specs.Prelude.{◌≡◌, ◌<◌, ◌≤◌, ℕ, Option, Some, None, List, [], length, slice_get}
 use Rattle.delf_model.specs.declared.schema.ObjectType.{ObjectType}
 use Rattle.delf_model.specs.declared.schema.EdgeType.{EdgeType}
 use Rattle.delf_model.specs.declared.schema.Schema.{Schema}
@@ -7,7 +7,11 @@ use Rattle.delf_model.specs.declared.call.Call.{Call}
 use Rattle.delf_model.specs.declared.call.Call.TheVariants as call
 use Rattle.delf_model.specs.declared.script.Command.{Command}
 use Rattle.delf_model.specs.declared.script.Command.TheVariants.{Submit, Par}
+use Rattle.delf_model.specs.declared.script.Lane.{Lane}
+use Rattle.delf_model.specs.declared.script.LaneCommand.{LaneCommand}
+use Rattle.delf_model.specs.declared.script.LaneCommand.TheVariants as lane
 use Rattle.delf_model.specs.RuleSet.{RuleSet}
+use Rattle.std.specs.List.{All}
 
 abbrev pub name_of_type : Option ObjectType → List ℕ
 name_of_type None = []
@@ -36,8 +40,22 @@ IsNumberedCall rules (call.Unlink edge from to name) = edge < length rules.edges
 IsNumberedCall rules (call.Delete id name) = Unit {0}
 IsNumberedCall rules (call.Restore name) = Unit {0}
 
+abbrev pub IsNumberedLaneCommand : RuleSet → LaneCommand → Type 0
+IsNumberedLaneCommand rules (lane.Submit asked) = IsNumberedCall rules asked
+IsNumberedLaneCommand rules (lane.Get id) = Unit {0}
+
+pub record IsNumberedLane (rules : RuleSet) (lane : Lane) : Type 0 where
+  pub commands : All (IsNumberedLaneCommand rules) lane.commands
+
+-- at most 16 lanes and 16 workers
+pub record IsNumberedBlock (rules : RuleSet) (workers : ℕ) (lanes : List Lane) : Type 0 where
+  pub few_lanes : length lanes ≤ 16
+  pub few_workers : workers ≤ 16
+  pub each : All (IsNumberedLane rules) lanes
+
 abbrev pub IsNumberedCommand : RuleSet → Command → Type 0
 IsNumberedCommand rules (Submit asked) = IsNumberedCall rules asked
+IsNumberedCommand rules (Par quiet workers turns lanes) = IsNumberedBlock rules workers lanes
 IsNumberedCommand rules other = Unit {0}
 
 -- no block of lanes

@@ -14,12 +14,12 @@ use script_lang::DocumentFault;
 use std::alloc::{AllocError, Global};
 
 /// What `check` prints of the document that these bytes spell: how many types and edge types it has, and the printed route
-/// of each `by_any` type. Or the fault that is tried first.
-pub fn check_document(alloc: Global, bytes: &[u8]) -> Result<Bytes, DocumentFault>
-    ensures text { IfOk result (ChecksAs bytes.now) }
-    ensures fault { IfErr result (IsToldFault bytes.now) }
+/// of each `by_any` type. Or the fault that is tried first. Without `blocks` a `par` line fits no line.
+pub fn check_document(alloc: Global, bytes: &[u8], blocks: bool) -> Result<Bytes, DocumentFault>
+    ensures text { IfOk result (ChecksAs blocks bytes.now) }
+    ensures fault { IfErr result (IsToldFault blocks bytes.now) }
 {
-    let document = read_document(alloc, bytes)?;
+    let document = read_document(alloc, bytes, blocks)?;
     match check_text(alloc, &document.schema) {
         Ok(text) => Ok(text),
         Err(AllocError) => Err(DocumentFault::OutOfMemory),

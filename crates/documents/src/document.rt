@@ -1,5 +1,5 @@
 //! A document: what its bytes say, or its first fault.
-ghost use Rattle.std.specs.Prelude.{◌≡◌, ◌++◌, ◌<◌, IfOk, IfErr, length};
+ghost use Rattle.std.specs.Prelude.{◌≡◌, ◌++◌, ◌<◌, false, IfOk, IfErr, length};
 ghost use Rattle.std.specs.List.{All};
 ghost use Rattle.delf_model.specs.Checked.{IsSpellable, numbered};
 ghost use Rattle.script_lang.specs.Documents.{IsLineTold};
@@ -21,15 +21,15 @@ pub struct Document {
     pub commands: Script,
 }
 
-/// The document that these bytes spell, or the fault that is tried first.
-pub fn read_document(alloc: Global, bytes: &[u8]) -> Result<Document, DocumentFault>
-    ensures document { IfOk result (IsDocument bytes.now) }
+/// The document that these bytes spell, or the fault that is tried first. Without `blocks` a `par` line fits no line.
+pub fn read_document(alloc: Global, bytes: &[u8], blocks: bool) -> Result<Document, DocumentFault>
+    ensures document { IfOk result (IsDocument blocks bytes.now) }
     ensures named { IfOk result (λ document. HasNames document.schema document.rules) }
     ensures numbered { IfOk result (λ document. All (IsNumberedCommand document.rules) document.commands) }
     ensures spellable { IfOk result (λ document. IsSpellable document.schema) }
     ensures rules { IfOk result (λ document. document.rules ≡ numbered document.schema) }
-    ensures lanes { IfOk result (λ document. All HasNoLanes document.commands) }
-    ensures fault { IfErr result (IsToldFault bytes.now) }
+    ensures lanes { blocks ≡ false → IfOk result (λ document. All HasNoLanes document.commands) }
+    ensures fault { IfErr result (IsToldFault blocks bytes.now) }
 {
     if bytes.len() > DOCUMENT_LIMIT {
         return Err(too_long(alloc));
@@ -43,7 +43,7 @@ pub fn read_document(alloc: Global, bytes: &[u8]) -> Result<Document, DocumentFa
         Err(JudgeFault::Breaks(broken)) => return Err(told_broken(alloc, &part.schema, broken)),
         Err(JudgeFault::OutOfMemory) => return Err(DocumentFault::OutOfMemory),
     };
-    match parse_script(alloc, &part.schema, false, part.next, part.rest) {
+    match parse_script(alloc, &part.schema, blocks, part.next, part.rest) {
         Ok(commands) => Ok(Document {
             schema: part.schema,
             rules,

@@ -1,8 +1,8 @@
-//! What a load makes: the generated schema, and the generated script without its blocks.
-ghost use Rattle.std.specs.Prelude.{◌≡◌, ◌++◌, ◌∷◌, ◌≤◌, [], IfOk, flat_map, map, length};
+//! What a load makes: the generated schema, and the generated script, also without its blocks.
+ghost use Rattle.std.specs.Prelude.{◌≡◌, ◌++◌, ◌∷◌, ◌≤◌, [], false, IfOk, flat_map, map, length};
 ghost use Rattle.std.specs.List.{All};
-ghost use Rattle.documents.specs.Loads.{IsLoad, IsStill, load_commands, made_in_turn, block_alone, lane_alone, made_alone, restored_count, is_restored};
-ghost use Rattle.documents.specs.Names.{HasNames, IsNumberedCommand};
+ghost use Rattle.documents.specs.Loads.{IsLoad, IsStill, commands_of, load_commands, made_in_turn, block_alone, lane_alone, made_alone, restored_count, is_restored};
+ghost use Rattle.documents.specs.Names.{HasNames, HasNoLanes, IsNumberedCommand};
 
 use crate::document::Document;
 use delf_model::{
@@ -12,15 +12,16 @@ use delf_model::{
 use script_lang::generated;
 use std::alloc::{AllocError, Global};
 
-/// What a load of `n` objects, 8 to 20,000, makes: the generated schema with its rules, and the commands of the generated
-/// script in a plain row. The only error is want of memory.
-pub fn load_document(alloc: Global, n: u32) -> Result<Document, AllocError>
+/// What a load of `n` objects, 8 to 20,000, makes: the generated schema with its rules, and the generated script, without
+/// `blocks` in a plain row. The only error is want of memory.
+pub fn load_document(alloc: Global, n: u32, blocks: bool) -> Result<Document, AllocError>
     requires above { 8 ≤ n }
     requires below { n ≤ 20000 }
-    ensures load { IfOk result (IsLoad n) }
+    ensures load { IfOk result (IsLoad blocks n) }
     ensures named { IfOk result (λ document. HasNames document.schema document.rules) }
     ensures numbered { IfOk result (λ document. All (IsNumberedCommand document.rules) document.commands) }
     ensures still { IfOk result (λ document. All IsStill document.commands) }
+    ensures lanes { blocks ≡ false → IfOk result (λ document. All HasNoLanes document.commands) }
 {
     let (schema, script) = generated(alloc, n)?;
     let rules = match Rules::judge(alloc, &schema) {
@@ -28,12 +29,23 @@ pub fn load_document(alloc: Global, n: u32) -> Result<Document, AllocError>
         Err(JudgeFault::Breaks(_)) => unreachable!(),
         Err(JudgeFault::OutOfMemory) => return Err(AllocError),
     };
-    let commands = load_commands(alloc, script.as_slice())?;
+    let commands = commands_of(alloc, script, blocks)?;
     Ok(Document {
         schema,
         rules,
         commands,
     })
+}
+
+// The commands of a load.
+fn commands_of(alloc: Global, script: Script, blocks: bool) -> Result<Script, AllocError>
+    ensures { IfOk result (λ commands. commands ≡ commands_of blocks script) }
+{
+    if blocks {
+        Ok(script)
+    } else {
+        load_commands(alloc, script.as_slice())
+    }
 }
 
 /// How many of these jobs were restored: all of their rows were put back or listed.

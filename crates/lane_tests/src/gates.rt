@@ -1,5 +1,6 @@
 //! Gates that hold lanes and workers, each for so many loads of a flag at most.
 
+use delf_book::{Claim, Prepared, prepare};
 use delf_service::Gate;
 use std::hint::spin_loop;
 use std::sync::atomic::{AtomicU64, Ordering};
@@ -14,7 +15,8 @@ fn reaches(word: &AtomicU64, least: u64) -> bool {
     false
 }
 
-/// A gate that holds its first calls, so many, until all of them have begun.
+/// A gate that holds its first calls, so many, until all of them have begun: those that make a record, and those that tell
+/// of an entry.
 #[derive(Drop)]
 pub(crate) struct Meeting {
     many: u64,
@@ -31,6 +33,15 @@ impl Meeting {
         }
     }
 
+    // Begins a call, and holds it where it is one of the first.
+    fn hold(&self) {
+        if self.begun.fetch_add(1, Ordering::SeqCst) < self.many
+            && reaches(&self.begun, self.many)
+        {
+            self.met.fetch_add(1, Ordering::SeqCst);
+        }
+    }
+
     /// Whether all of the first calls saw that all had begun.
     pub(crate) fn was_held(&self) -> bool {
         self.met.load(Ordering::SeqCst) == self.many
@@ -38,12 +49,49 @@ impl Meeting {
 }
 
 impl Gate for Meeting {
+    fn between(&self, claim: Claim) -> Prepared {
+        self.hold();
+        prepare(claim)
+    }
+
     fn after(&self, _position: u32) {
-        if self.begun.fetch_add(1, Ordering::SeqCst) < self.many
-            && reaches(&self.begun, self.many)
-        {
-            self.met.fetch_add(1, Ordering::SeqCst);
+        self.hold();
+    }
+}
+
+/// A gate that holds the first claim, before its record is made, until it was told of the step of another.
+#[derive(Drop)]
+pub(crate) struct Hold {
+    claims: AtomicU64,
+    told: AtomicU64,
+    seen: AtomicU64,
+}
+
+impl Hold {
+    pub(crate) fn new() -> Hold {
+        Hold {
+            claims: AtomicU64::new(0),
+            told: AtomicU64::new(0),
+            seen: AtomicU64::new(0),
         }
+    }
+
+    /// Whether another step was made while the first claim was held.
+    pub(crate) fn saw_a_step(&self) -> bool {
+        self.seen.load(Ordering::SeqCst) == 1
+    }
+}
+
+impl Gate for Hold {
+    fn between(&self, claim: Claim) -> Prepared {
+        if self.claims.fetch_add(1, Ordering::SeqCst) == 0 && reaches(&self.told, 1) {
+            self.seen.fetch_add(1, Ordering::SeqCst);
+        }
+        prepare(claim)
+    }
+
+    fn after(&self, _position: u32) {
+        self.told.fetch_add(1, Ordering::SeqCst);
     }
 }
 
@@ -70,6 +118,10 @@ impl Watch {
 }
 
 impl Gate for Watch {
+    fn between(&self, claim: Claim) -> Prepared {
+        prepare(claim)
+    }
+
     fn after(&self, position: u32) {
         match position {
             0 => {

@@ -2,7 +2,7 @@
 ghost use Rattle.std.specs.Prelude.{◌≤◌};
 
 use crate::blocks::{Left, leave};
-use crate::gates::{Meeting, Watch};
+use crate::gates::{Hold, Meeting, Watch};
 use crate::orders::{Order, add_lane, store_with};
 use crate::stores::{USER, blank};
 use delf_model::{Lane, List};
@@ -29,13 +29,13 @@ fn leave_behind<W: Threads + Wait + Sync, Q: Gate + Sync>(
 }
 
 // What so many lanes that make a user each, and so many workers, leave behind these orders.
-fn meet<W: Threads + Wait + Sync>(
+fn meet<W: Threads + Wait + Sync, Q: Gate + Sync>(
     rt: &W,
     alloc: Global,
     before: &[Order],
     count: u64,
     workers: u8,
-    gate: &Meeting,
+    gate: &Q,
 ) -> Result<Left, Fail>
     requires { workers ≤ 16 }
 {
@@ -67,16 +67,16 @@ fn two_lanes_run_at_once(rt: HostRuntime) -> Result<(), Fail> {
 }
 
 #[test]
-fn two_workers_run_at_once(rt: HostRuntime) -> Result<(), Fail> {
+fn another_step_is_made_between(rt: HostRuntime) -> Result<(), Fail> {
     let before = [
         Order::Create(USER, 1),
         Order::Create(USER, 2),
         Order::Delete(1, 40),
         Order::Delete(2, 41),
     ];
-    let gate = Meeting::of(2);
+    let gate = Hold::new();
     let left = meet(&rt, rt.alloc(), &before, 0, 2, &gate)?;
-    assert!(rt; gate.was_held());
+    assert!(rt; gate.saw_a_step());
     assert_eq!(rt;
         left,
         Left {

@@ -1,4 +1,4 @@
-ghost use Rattle.std.specs.Prelude.{◌≡◌, ◌+◌, ◌*◌, ◌<◌, ◌≤◌, ◌++◌, ◌∷◌, ◌&&◌, ℕ, IfOk, drop, length, nat_eq, [], true, false, Some, None, OnOk, IsTrue, slice_get, option_map};
+ghost use Rattle.std.specs.Prelude.{◌≡◌, ◌+◌, ◌*◌, ◌<◌, ◌≤◌, ◌++◌, ◌∷◌, ◌&&◌, ℕ, IfOk, drop, length, nat_eq, [], true, false, Some, None, OnOk, IsTrue, slice_get, take, option_map};
 ghost use Rattle.entry_codec.specs.EntryHead.{AreEntries};
 ghost use Rattle.delf_model.specs.declared.entry.What.{What};
 ghost use Rattle.delf_model.specs.RuleSet.{is_refcount};
@@ -11,7 +11,7 @@ ghost use Rattle.delf_model.specs.Room.{used, owed, greatest_moment};
 ghost use Rattle.delf_model.specs.Reply.{reply};
 ghost use Rattle.delf_model.specs.Order.{first_step, is_held as is_held_in};
 ghost use Rattle.held_laws.specs.Held.{takes_row};
-ghost use Rattle.delf_model.specs.Report.{status as status_of, job_at as line_at, listed_at as listed_of, items_of};
+ghost use Rattle.delf_model.specs.Report.{status as status_of, job_at as line_at, listed_at as listed_of, listed_from, items_of};
 ghost use Rattle.delf_model.specs.Sound.{FirstIsLegal};
 ghost use Rattle.job_table.specs.Next.{IsSerial, IsFreeNext};
 ghost use Rattle.job_table.specs.Table.{IsTableOf, IsGraphOf, item_at as item_of, top_seat as greatest_seat, given_up};
@@ -174,6 +174,14 @@ impl<G: GraphStore> Ledger<G> {
         ensures { result ≡ listed_of (state_of self.now) job i }
     {
         self.jobs().listed_at(job, i)
+    }
+
+    /// The listed item of the job with the greatest number below this one. All listed items of a job, each read below the
+    /// one before, cost one pass over where its items stand.
+    pub fn listed_before(&self, job: Job, below: u32) -> Option<Listed>
+        ensures { result ≡ slice_get (listed_from job 0 (take below (state_of self.now).items)) 0 }
+    {
+        self.jobs().listed_before(job, below)
     }
 
     /// The item with this number.

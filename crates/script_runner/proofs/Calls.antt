@@ -1,6 +1,6 @@
 -- The answer of a call, said of the world.
 use Rattle.std.proofs.Common.{◌≡◌, ℕ, ◌<◌, Bool, true, false, cond, Option, Some, None, List, [], ◌∷◌, ◌++◌, length, refl, sym, ap, subst, ◌∙◌, inl, inr, arith}
-use Rattle.std.specs.Prelude.{Result, Ok, Err, IfOk, IfErr, OnErr, is_some}
+use Rattle.std.specs.Prelude.{Result, Ok, Err, IfOk, IfErr, OnOk, OnErr, is_some}
 use Rattle.delf_disk.specs.Areas.{Areas}
 use Rattle.delf_disk.specs.Causes.{Rose}
 use Rattle.delf_model.specs.declared.schema.Schema.{Schema}
@@ -24,9 +24,9 @@ use Rattle.delf_book.specs.Parts.{Interrupted}
 use Rattle.delf_book.specs.declared.answers.Receipt.{Receipt}
 use Rattle.delf_book.specs.Books.{Booked, state_in, Grew, Accepted, Interrupts, Answers, CallIsSafe, CountsRefusal, given_by, started_by, job_if, restored_items}
 use Rattle.job_report.specs.Texts.{unlinked_text, refusal_text, down_text}
-use Rattle.script_runner.specs.Lines.{receipt_text}
+use Rattle.script_runner.specs.Lines.{receipt_text, refusal_name}
 use Rattle.script_runner.specs.Names.{IsNumberedRefusal}
-use Rattle.script_runner.specs.Serial.{answer, answer_text, accepted_text, after_answer, started_name, refusal_name, refused_down, Submits}
+use Rattle.script_runner.specs.Serial.{answer, answer_text, accepted_text, after_answer, started_name, refused_down, Submits}
 use Rattle.documents.specs.Names.{edge_name}
 use Rattle.script_runner.specs.Serial as serial
 use Rattle.script_runner.specs.Standing.{Carried, HaltedAt, Falls}
@@ -206,19 +206,19 @@ refused_rules {G} {R} old now moment asked (DiskFault len) answers = answers.fel
 refused_rules {G} {R} old now moment asked r answers = ap (λ (b : Booked G R). b.rules) answers.2
 
 -- a book that is as it was fell not
-stays : {G R : Type 0} → (faults : R → ℕ) (old now : Booked G R) → now.down ≡ old.down → faults now.rig ≡ faults old.rig → Falls faults old now
-stays faults old now down count = record { later = omega (arith, count); fell = λ is. inl (sym down ∙ is) }
+stays : {G R : Type 0} → (faults : R → ℕ) (old now : Booked G R) → now.down ≡ old.down → now.held ≡ old.held → faults now.rig ≡ faults old.rig → Falls faults old now
+stays faults old now down held count = record { later = omega (arith, count); fell = λ is. inl (sym down ∙ is); held = held }
 
 pub accepted_falls : {G R : Type 0} → (faults : R → ℕ) (old now : Booked G R) (moment : ℕ) (asked : Call) (receipt : Receipt) → Accepted old now moment 0 asked receipt →
     faults now.rig ≡ faults old.rig → Falls faults old now
-accepted_falls faults old now moment asked receipt a count = stays faults old now (a.grew.up ∙ sym a.up) count
+accepted_falls faults old now moment asked receipt a count = stays faults old now (a.grew.up ∙ sym a.up) a.grew.held count
 
 pub refused_falls : {G R : Type 0} → (faults : R → ℕ) (old now : Booked G R) (moment : ℕ) (asked : Call) (r : Refusal) → Answers old now moment 0 asked (Err r) →
     CountsRefusal {T = Receipt} (faults old.rig) (faults now.rig) (Err r) → Falls faults old now
-refused_falls {G} {R} faults old now moment asked (Down len) answers count = stays faults old now (ap (λ (b : Booked G R). b.down) answers.2) count
-refused_falls faults old now moment asked OutOfMemory answers count = stays faults old now answers.1.down count
-refused_falls faults old now moment asked (DiskFault len) answers count = record { later = count.0; fell = λ is. inr count.1 }
-refused_falls {G} {R} faults old now moment asked r answers count = stays faults old now (ap (λ (b : Booked G R). b.down) answers.2) count
+refused_falls {G} {R} faults old now moment asked (Down len) answers count = stays faults old now (ap (λ (b : Booked G R). b.down) answers.2) (ap (λ (b : Booked G R). b.held) answers.2) count
+refused_falls faults old now moment asked OutOfMemory answers count = stays faults old now answers.1.down answers.1.held count
+refused_falls faults old now moment asked (DiskFault len) answers count = record { later = count.0; fell = λ is. inr count.1; held = answers.fell.held }
+refused_falls {G} {R} faults old now moment asked r answers count = stays faults old now (ap (λ (b : Booked G R). b.down) answers.2) (ap (λ (b : Booked G R). b.held) answers.2) count
 
 -- the type of a wrong end has a name
 pub refusal_named : {G R : Type 0} → (old now : Booked G R) (moment count : ℕ) (asked : Call) (r : Refusal) → Legal old.rules old.history → length old.rules.objects ≡ count →
@@ -237,6 +237,12 @@ if_ok P (Err e) each = tt
 pub on_err : {T E : Type 0} → {P : Type 0} → (r : Result T E) → P → OnErr r P
 on_err (Ok x) p = tt
 on_err (Err e) p = p
+
+pub err_of : {T E : Type 0} → {P : Type 0} → (r : Result T E) (e : E) → r ≡ Err e → OnErr r P → P
+err_of {T} {E} {P} r e is holds = subst (λ (q : Result T E). OnErr q P) is holds
+
+pub ok_of : {T E : Type 0} → {P : Type 0} → (r : Result T E) (x : T) → r ≡ Ok x → OnOk r P → P
+ok_of {T} {E} {P} r x is holds = subst (λ (q : Result T E). OnOk q P) is holds
 
 pub ok_is : {T E : Type 0} → (P : T → Type 0) (r : Result T E) (x : T) → r ≡ Ok x → IfOk r P → P x
 ok_is {T} {E} P r x is holds = subst (λ (q : Result T E). IfOk q P) is holds

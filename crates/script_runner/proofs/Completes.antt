@@ -16,10 +16,10 @@ not_bad : (plain : Type 0) (rules other : RuleSet) (seen : Areas) (area : Area) 
 not_bad plain rules other seen area at same is store bad =
     (bad is).stands_not store.history store.payloads (subst (λ (r : RuleSet). StandBut r store.history store.payloads seen) (sym same) store.stands)
 
-module _ (plain : Type 0) (seen : Areas) (told : Bool) (left : List ℕ) (read_rose write_rose rig_rose : Type 0) (quiet : IsQuiet read_rose write_rose rig_rose) where
+module _ (blocks : Bool) (plain : Type 0) (seen : Areas) (told : Bool) (left : List ℕ) (read_rose write_rose rig_rose : Type 0) (quiet : IsQuiet read_rose write_rose rig_rose) where
   pub ends_well : (request : Option Request) (status : Status) →
-      RunCause request told left read_rose write_rose rig_rose (λ rules area at. plain → IsBad rules seen area at) status →
-      EndsWell request told left (λ rules. plain × IsStore rules seen) status
+      RunCause blocks request told left read_rose write_rose rig_rose (λ rules area at. plain → IsBad rules seen area at) status →
+      EndsWell blocks request told left (λ rules. plain × IsStore rules seen) status
   ends_well None Usage cause = refl
   ends_well None (WriteFault done) cause = absurd (quiet.sink cause.1)
   ends_well None Done cause = absurd cause
@@ -30,17 +30,17 @@ module _ (plain : Type 0) (seen : Areas) (told : Bool) (left : List ℕ) (read_r
   ends_well None (BadStore area at) cause = absurd cause
   ends_well (Some (Run start)) Done cause = λ document is read store. tt
   ends_well (Some (Run start)) Usage cause = λ document is read store. cause
-  ends_well (Some (Run start)) (BadDocument line) cause = λ document is read store. let has = cause is in absurd (no_fault left document has.fault read has.refused)
+  ends_well (Some (Run start)) (BadDocument line) cause = λ document is read store. let has = cause is in absurd (no_fault blocks left document has.fault read has.refused)
   ends_well (Some (Run start)) ReadFault cause = λ document is read store. absurd (quiet.source cause)
   ends_well (Some (Run start)) (WriteFault done) cause = λ document is read store. absurd (quiet.sink cause)
   ends_well (Some (Run start)) (OutOfMemory done) cause = λ document is read store. tt
   ends_well (Some (Run start)) (Down len) cause = λ document is read store. absurd (quiet.rig cause.0)
   ends_well (Some (Run start)) (BadStore area at) cause = λ document is read store.
       let of = cause is in
-      absurd (not_bad plain of.document.rules document.rules seen area at (document_rules left of.document document of.read read) store.0 store.1 of.holds)
+      absurd (not_bad plain of.document.rules document.rules seen area at (document_rules blocks left of.document document of.read read) store.0 store.1 of.holds)
   ends_well (Some Check) Done cause = λ document is read. tt
   ends_well (Some Check) Usage cause = λ document is read. cause
-  ends_well (Some Check) (BadDocument line) cause = λ document is read. let has = cause is in absurd (no_fault left document has.fault read has.refused)
+  ends_well (Some Check) (BadDocument line) cause = λ document is read. let has = cause is in absurd (no_fault blocks left document has.fault read has.refused)
   ends_well (Some Check) ReadFault cause = λ document is read. absurd (quiet.source cause)
   ends_well (Some Check) (WriteFault done) cause = λ document is read. absurd (quiet.sink cause.1)
   ends_well (Some Check) (OutOfMemory done) cause = λ document is read. tt

@@ -81,33 +81,8 @@ from_none a b is = omega arith
 pub jobs_within : (rules : RuleSet) (h : List Entry) → length (after rules h).jobs ≤ length h
 jobs_within rules h = from_none (length (after rules h).jobs) (length h) (jobs_run (start rules) h)
 
-items_within : (rules : RuleSet) (h : List Entry) → length (after rules h).items ≤ length h
+pub items_within : (rules : RuleSet) (h : List Entry) → length (after rules h).items ≤ length h
 items_within rules h = from_none (length (after rules h).items) (length h) (items_run (start rules) h)
-
-one_with : (i : ℕ) (it : Item) (cause : Option Cause) → length (listed_with i it cause) ≤ 1
-one_with i it None = omega arith
-one_with i it (Some cause) = omega arith
-
-one_by : (i : ℕ) (it : Item) (how : Option Handled) → length (listed_by i it how) ≤ 1
-one_by i it None = omega arith
-one_by i it (Some how) = one_with i it how.cause
-
-one_if_of : (b : Bool) (i : ℕ) (it : Item) (how : Option Handled) → length (cond b (listed_by i it how) []) ≤ 1
-one_if_of true i it how = one_by i it how
-one_if_of false i it how = omega arith
-
-listed_few : (job i : ℕ) (xs : List Logged) → length (listed_from job i xs) ≤ length xs
-listed_few job i [] = omega arith
-listed_few job i (x ∷ xs) =
-    omega (
-      arith,
-      length-append (listed_from job (i + 1) xs) (cond (is_of_job job x) (listed_by i x.item x.handled) []),
-      listed_few job (i + 1) xs,
-      one_if_of (is_of_job job x) i x.item x.handled,
-    )
-
-pub listed_within : (rules : RuleSet) (h : List Entry) (job : ℕ) → length (listed_from job 0 (after rules h).items) ≤ length h
-listed_within rules h job = omega (arith, items_within rules h, listed_few job 0 (after rules h).items)
 
 -- each row is owed an entry
 

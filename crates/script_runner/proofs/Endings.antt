@@ -10,7 +10,7 @@ use Rattle.delf_book.specs.Books.{Booked, WasDown}
 use Rattle.job_report.specs.Texts.{down_text}
 use Rattle.script_runner.specs.declared.status.Status.{Status}
 use Rattle.script_runner.specs.declared.status.Status.TheVariants.{Done, Usage, BadDocument, ReadFault, WriteFault, OutOfMemory, Down, BadStore}
-use Rattle.script_runner.specs.Endings.{Settles, StaysDown, FallsAtEnd, EndText, DownText, DownCause}
+use Rattle.script_runner.specs.Endings.{Settles, StaysDown, FallsAtEnd, EndText, EndCause, DownText, DownCause}
 use Rattle.documents.specs.Cuts.{IsCut}
 use Rattle.script_runner.specs.Worlds.{World, StandsOn, world_of}
 use Rattle.script_runner.proofs.Standing.{rest_held}
@@ -50,3 +50,26 @@ fell_text w len done start now images before after write_rose (OutOfMemory n) is
 fell_text w len done start now images before after write_rose (Down n) is falls text cause =
     inr (falls, cause ∙ is, text ∙ ap (λ (l : ℕ). before ++ down_text l) (sym cause))
 fell_text w len done start now images before after write_rose (BadStore area at) is falls text cause = text
+
+-- why
+
+-- nothing failed in the settling: it ended so for its own line alone
+pub put_ended : (done : ℕ) (write_rose fell : Type 0) (status : Status) → EndCause done write_rose ⊥ status → EndCause done write_rose fell status
+put_ended done write_rose fell Done cause = cause
+put_ended done write_rose fell Usage cause = cause
+put_ended done write_rose fell (BadDocument line) cause = cause
+put_ended done write_rose fell ReadFault cause = cause
+put_ended done write_rose fell (WriteFault n) cause = cause
+put_ended done write_rose fell (OutOfMemory n) cause = cause
+put_ended done write_rose fell (Down len) cause = absurd cause
+put_ended done write_rose fell (BadStore area at) cause = cause
+
+pub down_ended : (len done : ℕ) (write_rose fell : Type 0) (status : Status) → fell → DownCause len done write_rose status → EndCause done write_rose fell status
+down_ended len done write_rose fell Done down cause = absurd cause
+down_ended len done write_rose fell Usage down cause = cause
+down_ended len done write_rose fell (BadDocument line) down cause = cause
+down_ended len done write_rose fell ReadFault down cause = cause
+down_ended len done write_rose fell (WriteFault n) down cause = cause
+down_ended len done write_rose fell (OutOfMemory n) down cause = cause
+down_ended len done write_rose fell (Down n) down cause = down
+down_ended len done write_rose fell (BadStore area at) down cause = cause

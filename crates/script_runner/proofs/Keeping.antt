@@ -1,5 +1,5 @@
 -- What the rows of a book say: their numbers are those of its rules, and they are few.
-use Rattle.std.proofs.Common.{◌≡◌, ℕ, ◌≤◌, Option, Some, None, List, length, refl, sym, ap, subst, ◌∙◌}
+use Rattle.std.proofs.Common.{◌≡◌, ℕ, ◌≤◌, Option, Some, None, List, length, take, refl, sym, ap, subst, ◌∙◌}
 use Rattle.std.specs.Prelude.{Result, IfErr, IfSome, slice_get}
 use Rattle.std.specs.List.{AllByRecursion}
 use Rattle.delf_model.specs.declared.call.Call.{Call}
@@ -11,7 +11,7 @@ use Rattle.delf_model.specs.declared.rows.ObjectRow.{ObjectRow}
 use Rattle.delf_model.specs.declared.rows.EdgeRow.{EdgeRow}
 use Rattle.delf_model.specs.RuleSet.{RuleSet}
 use Rattle.delf_model.specs.Graph.{Graph, has_id, object_at}
-use Rattle.delf_model.specs.Report.{listed_from, listed_at}
+use Rattle.delf_model.specs.Report.{listed_from}
 use Rattle.delf_model.specs.Step.{after}
 use Rattle.delf_model.specs.Legal.{Legal}
 use Rattle.delf_model.specs.Reply.{reply}
@@ -62,11 +62,12 @@ pub object_if : (rules : RuleSet) (h : List Entry) (g : Graph) (id : ℕ) (o : O
     IfSome o (IsNumberedObject rules)
 object_if rules h g id o legal graph found = found_if rules g id o (objects_if rules h g g.objects legal graph refl) found
 
-listed_one : (rules : RuleSet) (xs : List Listed) (place : ℕ) (o : Option Listed) → AllByRecursion (IsNumberedListed rules) xs → o ≡ slice_get xs place →
+listed_first : (rules : RuleSet) (xs : List Listed) (o : Option Listed) → AllByRecursion (IsNumberedListed rules) xs → o ≡ slice_get xs 0 →
     IfSome o (IsNumberedListed rules)
-listed_one rules xs place None all is = tt
-listed_one rules xs place (Some listed) all is = all_at (IsNumberedListed rules) xs place listed all (sym is)
+listed_first rules xs None all is = tt
+listed_first rules xs (Some listed) all is = all_at (IsNumberedListed rules) xs 0 listed all (sym is)
 
-pub listed_if : (rules : RuleSet) (h : List Entry) (job place : ℕ) (o : Option Listed) → Legal rules h → o ≡ listed_at (after rules h) job place →
-    IfSome o (IsNumberedListed rules)
-listed_if rules h job place o legal found = listed_one rules (listed_from job 0 (after rules h).items) place o (listed_numbered rules h job legal) found
+pub listed_if : (rules : RuleSet) (h : List Entry) (job below : ℕ) (o : Option Listed) → Legal rules h →
+    o ≡ slice_get (listed_from job 0 (take below (after rules h).items)) 0 → IfSome o (IsNumberedListed rules)
+listed_if rules h job below o legal found =
+    listed_first rules (listed_from job 0 (take below (after rules h).items)) o (listed_numbered rules h job below legal) found

@@ -1,3 +1,4 @@
+pub mod Ages
 pub mod Calls
 pub mod Causes
 pub mod Checks
@@ -8,6 +9,9 @@ pub mod Endings
 pub mod Ends
 pub mod Finds
 pub mod Keeping
+pub mod LaneLines
+pub mod LaneRuns
+pub mod Listing
 pub mod LoadSteps
 pub mod Loops
 pub mod Moves

@@ -1,5 +1,5 @@
 -- The commands of a load, one by one, and how it ends.
-use Rattle.std.proofs.Common.{◌≡◌, ◌⊎◌, ℕ, ◌+◌, ◌<◌, ◌≤◌, false, List, [], ◌++◌, length, get_or, take, sym, ap, subst, ◌∙◌, inl, inr, arith}
+use Rattle.std.proofs.Common.{◌≡◌, ◌⊎◌, ℕ, ◌+◌, ◌<◌, ◌≤◌, Bool, false, List, [], ◌++◌, length, get_or, take, refl, sym, ap, subst, ◌∙◌, inl, inr, arith}
 use Rattle.delf_disk.specs.declared.area.Area.{Area}
 use Rattle.delf_disk.specs.declared.area.Order.{Order}
 use Rattle.delf_disk.specs.Areas.{Areas}
@@ -28,7 +28,7 @@ use Rattle.script_runner.specs.Openings.{StopCounts}
 use Rattle.script_runner.specs.Orders.{Gives}
 use Rattle.documents.specs.Cuts.{IsCut}
 use Rattle.script_runner.specs.Outcomes.{LoadCause, LoadedText, AsksOnce, Untouched}
-use Rattle.script_runner.specs.Standing.{Falls, Carried, IsServed, Leads}
+use Rattle.script_runner.specs.Standing.{Falls, Carried, IsOpen, Leads}
 use Rattle.script_runner.specs.Worlds.{World, StandsOn, IsHeld, state_of, world_of}
 use Rattle.script_runner.proofs.Causes.{rose_from, rose_to}
 use Rattle.script_runner.proofs.Endings.{settled_end, down_end, fell_end}
@@ -39,18 +39,31 @@ use Rattle.script_runner.proofs.Texts.{ran_of}
 
 -- a still command
 
-pub still_served : (command : Command) → IsStill command → IsServed command
-still_served (Submit asked) still = tt
-still_served (Work n) still = tt
-still_served (Tick n) still = tt
-still_served (Get id) still = tt
-still_served Show still = tt
-still_served (Job name) still = tt
-still_served Jobs still = tt
-still_served Report still = tt
-still_served (Fail n) still = tt
-still_served (Crash pick) still = still
-still_served (Par quiet workers turns lanes) still = still
+pub still_open : (command : Command) → IsStill command → IsOpen command
+still_open (Submit asked) still = tt
+still_open (Work n) still = tt
+still_open (Tick n) still = tt
+still_open (Get id) still = tt
+still_open Show still = tt
+still_open (Job name) still = tt
+still_open Jobs still = tt
+still_open Report still = tt
+still_open (Fail n) still = tt
+still_open (Crash pick) still = still
+still_open (Par quiet workers turns lanes) still = tt
+
+pub open_unless : (command : Command) → ((pick : ℕ) → command ≡ Crash pick → ⊥) → IsOpen command
+open_unless (Submit asked) never = tt
+open_unless (Work n) never = tt
+open_unless (Tick n) never = tt
+open_unless (Get id) never = tt
+open_unless Show never = tt
+open_unless (Job name) never = tt
+open_unless Jobs never = tt
+open_unless Report never = tt
+open_unless (Fail n) never = tt
+open_unless (Crash pick) never = never pick refl
+open_unless (Par quiet workers turns lanes) never = tt
 
 pub still_orders : (command : Command) (a b : Order) (l m : ℕ) → IsStill command → Gives command a l b m → (b ≡ a) × (m ≡ l)
 still_orders (Submit asked) a b l m still gives = gives
@@ -63,7 +76,7 @@ still_orders Jobs a b l m still gives = gives
 still_orders Report a b l m still gives = gives
 still_orders (Fail n) a b l m still gives = absurd still
 still_orders (Crash pick) a b l m still gives = absurd still
-still_orders (Par quiet workers turns lanes) a b l m still gives = absurd still
+still_orders (Par quiet workers turns lanes) a b l m still gives = gives
 
 -- none yet, one more, and all
 
@@ -88,7 +101,7 @@ leads_all may_leave faults schema first commands start i book clock past leads =
 -- a book that fell, over two commands
 
 pub falls_none : {G R : Type 0} → (faults : R → ℕ) (book : Booked G R) → Falls faults book book
-falls_none faults book = record { later = omega arith; fell = λ down. inl down }
+falls_none faults book = record { later = omega arith; fell = λ down. inl down; held = refl }
 
 pub falls_then : {G R : Type 0} → (faults : R → ℕ) (a b c : Booked G R) → Falls faults a b → Falls faults b c → Falls faults a c
 falls_then faults a b c first second = record {
@@ -100,6 +113,7 @@ falls_then faults a b c first second = record {
     ]
     | inr rose ↦ inr (rose_from (faults a.rig) (faults b.rig) (faults c.rig) first.later rose)
   ];
+  held = second.held ∙ first.held;
 }
 
 -- the end
@@ -220,16 +234,16 @@ load_unopened it start before now write_rose never (BadStore area at) less count
 
 -- the document that a load makes
 
-pub load_of_text : (n : ℕ) (runs : Document → Status → Type 0) (before after : List ℕ) (status : Status) (document : Document) → IsLoad n document → runs document status →
-    LoadedText n runs before after status
-load_of_text n runs before after Done document load holds = record { document = document; load = load; holds = holds }
-load_of_text n runs before after Usage document load holds = record { document = document; load = load; holds = holds }
-load_of_text n runs before after (BadDocument line) document load holds = record { document = document; load = load; holds = holds }
-load_of_text n runs before after ReadFault document load holds = record { document = document; load = load; holds = holds }
-load_of_text n runs before after (WriteFault done) document load holds = record { document = document; load = load; holds = holds }
-load_of_text n runs before after (OutOfMemory done) document load holds = inr (record { document = document; load = load; holds = holds })
-load_of_text n runs before after (Down len) document load holds = record { document = document; load = load; holds = holds }
-load_of_text n runs before after (BadStore area at) document load holds = record { document = document; load = load; holds = holds }
+pub load_of_text : (blocks : Bool) (n : ℕ) (runs : Document → Status → Type 0) (before after : List ℕ) (status : Status) (document : Document) → IsLoad blocks n document → runs document status →
+    LoadedText blocks n runs before after status
+load_of_text blocks n runs before after Done document load holds = record { document = document; load = load; holds = holds }
+load_of_text blocks n runs before after Usage document load holds = record { document = document; load = load; holds = holds }
+load_of_text blocks n runs before after (BadDocument line) document load holds = record { document = document; load = load; holds = holds }
+load_of_text blocks n runs before after ReadFault document load holds = record { document = document; load = load; holds = holds }
+load_of_text blocks n runs before after (WriteFault done) document load holds = record { document = document; load = load; holds = holds }
+load_of_text blocks n runs before after (OutOfMemory done) document load holds = inr (record { document = document; load = load; holds = holds })
+load_of_text blocks n runs before after (Down len) document load holds = record { document = document; load = load; holds = holds }
+load_of_text blocks n runs before after (BadStore area at) document load holds = record { document = document; load = load; holds = holds }
 
 -- the clock was asked once
 pub asked_once : (status : Status) (before now : ℕ) (write_rose rig_rose : Type 0) (bad : Area → ℕ → Type 0) → now ≡ next_count before → LoadCause write_rose rig_rose bad status →

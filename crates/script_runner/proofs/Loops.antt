@@ -1,10 +1,9 @@
--- A text that grows line by line, and jobs found by their start.
-use Rattle.std.proofs.Common.{◌≡◌, ℕ, zero, suc, ◌+◌, ◌≤◌, ◌<◌, Bool, true, false, cond, eqb, Option, Some, None, List, [], ◌∷◌, ◌++◌, length, get_or, take, flat_map, refl, sym, ap, ◌∙◌, arith, add-one, append-nil}
+-- A text that grows line by line, and the lines of jobs by age.
+use Rattle.std.proofs.Common.{◌≡◌, ℕ, zero, suc, ◌+◌, ◌≤◌, ◌<◌, Option, Some, None, List, [], ◌∷◌, ◌++◌, length, get_or, take, flat_map, refl, sym, ap, ◌∙◌, arith, add-one, append-nil}
 use Rattle.std.proofs.lemmas.List.{take_more, flat_map_more, length-take, length-map}
-use Rattle.std.proofs.lemmas.Bool.{eqb-true, eq-eqb}
-use Rattle.std.specs.Prelude.{find, map, slice_get, option_to_list}
+use Rattle.std.specs.Prelude.{map, slice_get, option_to_list}
 use Rattle.delf_model.specs.declared.call.JobLine.{JobLine}
-use Rattle.delf_model.specs.State.{State, JobRow, job_row, starts_at}
+use Rattle.delf_model.specs.State.{State, JobRow}
 use Rattle.delf_model.specs.Report.{job_line, job_at, line_of_row}
 use Rattle.documents.proofs.Places.{slice_past, take_past}
 
@@ -76,58 +75,3 @@ lines_next s i (Some line) before after is so_far next = lines_grow s i line bef
 pub lines_all : (s : State) (n : ℕ) (lines : List JobLine) → length s.jobs ≤ n → lines ≡ take n (map (job_line s) s.jobs) → lines ≡ map (job_line s) s.jobs
 lines_all s n lines few so_far =
     so_far ∙ take_past (map (job_line s) s.jobs) n (omega (arith, length-map s.jobs (job_line s)))
-
--- a job found by its start, or not among the first ones
-
-none_suc : (p : JobRow → Bool) (rows : List JobRow) (i : ℕ) (row : JobRow) → slice_get rows i ≡ Some row → p row ≡ false →
-    find p (take i rows) ≡ None → find p (take (suc i) rows) ≡ None
-none_suc p [] i row is other before = absurd (cc is)
-none_suc p (x ∷ xs) zero row is other before = let same : x ≡ row = cc in ap (λ (b : Bool). cond b (Some x) None) (ap p same ∙ other)
-none_suc p (x ∷ xs) (suc i) row is other before = none_cons x (p x) (find p (take i xs)) (find p (take (suc i) xs)) (none_suc p xs i row is other) before
-  where
-    none_cons : (x : JobRow) (b : Bool) (found more : Option JobRow) → (found ≡ None → more ≡ None) → cond b (Some x) found ≡ None → cond b (Some x) more ≡ None
-    none_cons x true found more next none = absurd (cc none)
-    none_cons x false found more next none = next none
-
-none_more : (p : JobRow → Bool) (rows : List JobRow) (i : ℕ) (row : JobRow) → slice_get rows i ≡ Some row → p row ≡ false →
-    find p (take i rows) ≡ None → find p (take (i + 1) rows) ≡ None
-none_more p rows i row is other before = ap (λ (n : ℕ). find p (take n rows)) (add-one i) ∙ none_suc p rows i row is other before
-
-found_here : (p : JobRow → Bool) (rows : List JobRow) (i : ℕ) (row : JobRow) → slice_get rows i ≡ Some row → p row ≡ true →
-    find p (take i rows) ≡ None → find p rows ≡ Some row
-found_here p [] i row is met before = absurd (cc is)
-found_here p (x ∷ xs) zero row is met before = let same : x ≡ row = cc in
-    ap (λ (b : Bool). cond b (Some x) (find p xs)) (ap p same ∙ met) ∙ ap (λ (r : JobRow). Some r) same
-found_here p (x ∷ xs) (suc i) row is met before = found_cons x row (p x) (find p (take i xs)) (find p xs) (found_here p xs i row is met) before
-  where
-    found_cons : (x row : JobRow) (b : Bool) (found more : Option JobRow) → (found ≡ None → more ≡ Some row) → cond b (Some x) found ≡ None → cond b (Some x) more ≡ Some row
-    found_cons x row true found more next none = absurd (cc none)
-    found_cons x row false found more next none = next none
-
-differ : (a b : ℕ) (c : Bool) → eqb a b ≡ c → (a ≡ b → ⊥) → c ≡ false
-differ a b true is unequal = absurd (unequal (eqb-true a b is))
-differ a b false is unequal = refl
-
-pub line_passed : (s : State) (i job : ℕ) (line : JobLine) (o : Option JobRow) → slice_get s.jobs i ≡ o → Some line ≡ line_of_row s o → (line.job ≡ job → ⊥) →
-    job_row (take i s.jobs) job ≡ None → job_row (take (i + 1) s.jobs) job ≡ None
-line_passed s i job line None at is other before = absurd (cc is)
-line_passed s i job line (Some row) at is other before =
-    let same : line ≡ job_line s row = cc in
-    let start : line.job ≡ row.start = ap (λ (l : JobLine). l.job) same in
-    none_more (starts_at job) s.jobs i row at (differ row.start job (eqb row.start job) refl (λ e. other (start ∙ e))) before
-
-pub line_met : (s : State) (i job : ℕ) (line : JobLine) (o : Option JobRow) → slice_get s.jobs i ≡ o → Some line ≡ line_of_row s o → line.job ≡ job →
-    job_row (take i s.jobs) job ≡ None → Some line ≡ line_of_row s (job_row s.jobs job)
-line_met s i job line None at is here before = absurd (cc is)
-line_met s i job line (Some row) at is here before =
-    let same : line ≡ job_line s row = cc in
-    let start : line.job ≡ row.start = ap (λ (l : JobLine). l.job) same in
-    is ∙ ap (line_of_row s) (sym (found_here (starts_at job) s.jobs i row at (eq-eqb row.start job (sym start ∙ here)) before))
-
-pub line_missed : (s : State) (i job : ℕ) → None ≡ job_at s i → job_row (take i s.jobs) job ≡ None → None ≡ line_of_row s (job_row s.jobs job)
-line_missed s i job is before =
-    ap (line_of_row s) (sym (ap (λ (rows : List JobRow). job_row rows job) (sym (slice_past s.jobs i (past_at s (slice_get s.jobs i) (sym is)))) ∙ before))
-
-pub line_absent : (s : State) (n job : ℕ) → length s.jobs ≤ n → job_row (take n s.jobs) job ≡ None → None ≡ line_of_row s (job_row s.jobs job)
-line_absent s n job few before =
-    ap (line_of_row s) (sym (ap (λ (rows : List JobRow). job_row rows job) (sym (take_past s.jobs n few)) ∙ before))

@@ -80,6 +80,7 @@ fell_then {G} {R} a b c only fell = subst (λ (x : Booked G R). Fell x c x.besid
   payloads = fell.payloads;
   down = fell.down;
   is_beside = fell.is_beside;
+  held = fell.held;
   spare = fell.spare;
   opened = fell.opened;
 })
@@ -139,7 +140,7 @@ reads_fell : {G R : Type 0} → (told honest : R → Bool) (may_leave : R → Ar
     text ≡ down_text len → Plain (told old.rig) (honest old.rig) → ReadsOut may_leave faults said old now text
 reads_fell {G} {R} told honest may_leave order orders faults old now said text len up legal d is plain = λ clock e stands.
     let alone : old.beside ≡ None = stands.alone up in
-    let fell : Fell old now None = record { rules = d.fell.rules; history = d.fell.history; payloads = d.fell.payloads; down = d.fell.down; is_beside = d.fell.is_beside ∙ alone; spare = d.fell.spare; opened = d.fell.opened } in
+    let fell : Fell old now None = record { rules = d.fell.rules; history = d.fell.history; payloads = d.fell.payloads; down = d.fell.down; is_beside = d.fell.is_beside ∙ alone; held = d.fell.held; spare = d.fell.spare; opened = d.fell.opened } in
     record {
       reads = serial.Reads.Falls up d.rose (is ∙ ap down_text d.length_is) (fell_world old now clock e None fell);
       stands = fell_stands old now clock e None (may_leave now.rig) fell
@@ -193,13 +194,14 @@ moved_falls : {G R : Type 0} → (told honest : R → Bool) (may_leave : R → A
 moved_falls {G} {R} told honest may_leave order orders faults old now moved = record {
   later = omega (arith, moved.count);
   fell = λ down. inl (sym (ap (λ (b : Booked G R). b.down) moved.only) ∙ down);
+  held = ap (λ (b : Booked G R). b.held) moved.only;
 }
 
 pub reads_falls : {G R T : Type 0} → (told honest : R → Bool) (may_leave : R → Areas → Type 0) (order : R → Order) (orders faults : R → ℕ) (old now : Booked G R)
     (r : Result T LineFault) → LineLeaves told honest may_leave order orders faults old now r → Falls faults old now
 reads_falls told honest may_leave order orders faults old now (Ok x) leaves = moved_falls told honest may_leave order orders faults old now leaves
 reads_falls told honest may_leave order orders faults old now (Err OutOfMemory) leaves = moved_falls told honest may_leave order orders faults old now leaves
-reads_falls told honest may_leave order orders faults old now (Err (Failed len)) leaves = record { later = leaves.later; fell = λ down. inr leaves.rose }
+reads_falls told honest may_leave order orders faults old now (Err (Failed len)) leaves = record { later = leaves.later; fell = λ down. inr leaves.rose; held = leaves.fell.held }
 
 -- a line that there was memory for
 pub line_text : {E : Type 0} → (P : List ℕ → Type 0) (line : Result (List ℕ) E) (r : Result (List ℕ) LineFault) → IfOk line P → IfOk r (λ t. line ≡ Ok t) → IfOk r P

@@ -9,7 +9,8 @@ use Rattle.delf_model.specs.declared.call.Listed.{Listed}
 use Rattle.delf_model.specs.declared.call.Refusal.{Refusal}
 use Rattle.delf_model.specs.declared.call.Refusal.TheVariants.{Down, TooLong, Absent, Condemned, WrongEnd, NameTaken, EdgeTaken, NoEdge, NotDirect, JobTaken, NoJob, Pending, RestoredBefore, WindowOver, Full, OutOfMemory, DiskFault}
 use Rattle.job_report.specs.Texts.{listed_text, refusal_text}
-use Rattle.script_runner.specs.Serial.{item_name, listed_line, refusal_name}
+use Rattle.script_runner.specs.Lines.{refusal_name}
+use Rattle.script_runner.specs.Serial.{item_name, listed_line}
 
 by_row : (schema : Schema) (i : ℕ) (it : Item) (cause : Cause) (name : List ℕ) (job : ℕ) (row : ObjectRow) → it ≡ Object job row →
     listed_text (record { item = i; row = it; cause = cause }) name ≡ listed_text (record { item = i; row = it; cause = cause }) (item_name schema it)

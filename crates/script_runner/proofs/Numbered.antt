@@ -1,5 +1,5 @@
 -- Each row of a legal history has the number of a type that the rules have.
-use Rattle.std.proofs.Common.{◌≡◌, ℕ, zero, suc, ◌+◌, ◌<◌, Bool, true, false, cond, eqb, ltb, Option, Some, None, List, [], ◌∷◌, ◌++◌, length, get_or, refl, sym, subst, arith}
+use Rattle.std.proofs.Common.{◌≡◌, ℕ, zero, suc, ◌+◌, ◌<◌, Bool, true, false, cond, eqb, ltb, Option, Some, None, List, [], ◌∷◌, ◌++◌, length, get_or, take, refl, sym, subst, arith}
 use Rattle.std.proofs.lemmas.Bool.{ltb-true}
 use Rattle.std.specs.Prelude.{find, filter, map, slice_get}
 use Rattle.std.specs.List.{AllByRecursion}
@@ -223,5 +223,12 @@ all_listed rules job i (x ∷ xs) all =
     (all_listed rules job (i + 1) xs all.1)
     (all_cond (IsNumberedListed rules) (is_of_job job x) (listed_by i x.item x.handled) [] (all_listed_by rules i x.item x.handled all.0) tt)
 
-pub listed_numbered : (rules : RuleSet) (h : List Entry) (job : ℕ) → Legal rules h → AllByRecursion (IsNumberedListed rules) (listed_from job 0 (after rules h).items)
-listed_numbered rules h job legal = all_listed rules job 0 (after rules h).items (items_numbered rules h legal)
+all_front : (rules : RuleSet) (n : ℕ) (xs : List Logged) → AllByRecursion (IsNumberedLogged rules) xs → AllByRecursion (IsNumberedLogged rules) (take n xs)
+all_front rules zero xs all = tt
+all_front rules (suc n) [] all = tt
+all_front rules (suc n) (x ∷ xs) all = (all.0, all_front rules n xs all.1)
+
+pub listed_numbered : (rules : RuleSet) (h : List Entry) (job below : ℕ) → Legal rules h →
+    AllByRecursion (IsNumberedListed rules) (listed_from job 0 (take below (after rules h).items))
+listed_numbered rules h job below legal =
+    all_listed rules job 0 (take below (after rules h).items) (all_front rules below (after rules h).items (items_numbered rules h legal))

@@ -32,8 +32,8 @@ pub record IsStore (rules : RuleSet) (seen : Areas) : Type 0 where
   pub stands : StandBut rules history payloads seen
 
 -- by what the words ask for; `stands` says that the store stands under the document's rules
-abbrev pub EndsWell : Option Request → Bool → List ℕ → (RuleSet → Type 0) → Status → Type 0
-EndsWell None told left stands status = status ≡ Usage
-EndsWell (Some (Run start)) told left stands status = (document : Document) → IsTrue told → IsDocument left document → stands document.rules → IsWell status
-EndsWell (Some Check) told left stands status = (document : Document) → IsTrue told → IsDocument left document → IsWell status
-EndsWell (Some (Load n)) told left stands status = (document : Document) → IsLoad n document → stands document.rules → IsWell status
+abbrev pub EndsWell : Bool → Option Request → Bool → List ℕ → (RuleSet → Type 0) → Status → Type 0
+EndsWell blocks None told left stands status = status ≡ Usage
+EndsWell blocks (Some (Run start)) told left stands status = (document : Document) → IsTrue told → IsDocument blocks left document → stands document.rules → IsWell status
+EndsWell blocks (Some Check) told left stands status = (document : Document) → IsTrue told → IsDocument blocks left document → IsWell status
+EndsWell blocks (Some (Load n)) told left stands status = (document : Document) → IsLoad blocks n document → stands document.rules → IsWell status

@@ -1,5 +1,5 @@
 -- What the line of a document's first fault leaves in the sink, and why it ended so.
-use Rattle.std.specs.Prelude.{◌≡◌, ℕ, List, ◌++◌}
+use Rattle.std.specs.Prelude.{◌≡◌, ℕ, Bool, List, ◌++◌}
 use Rattle.job_report.specs.Texts.{fault_text}
 use Rattle.script_lang.specs.declared.fault.DocumentFault.{DocumentFault}
 use Rattle.script_lang.specs.declared.fault.DocumentFault.TheVariants as document_fault
@@ -40,14 +40,14 @@ FaultCause told write_rose (Down len) = ⊥
 FaultCause told write_rose (BadStore area at) = ⊥
 
 -- the line of the fault for which the bytes are not run
-pub record TellsFault (bytes : List ℕ) (line : ℕ) (before after : List ℕ) : Type 0 where
+pub record TellsFault (blocks : Bool) (bytes : List ℕ) (line : ℕ) (before after : List ℕ) : Type 0 where
   pub fault : Fault
-  pub refused : IsFault bytes fault
+  pub refused : IsFault blocks bytes fault
   pub line_is : line ≡ fault.line
   pub text : after ≡ before ++ fault_line fault
 
 -- a front of that line
-pub record CutsFault (bytes : List ℕ) (before after : List ℕ) (done : ℕ) : Type 0 where
+pub record CutsFault (blocks : Bool) (bytes : List ℕ) (before after : List ℕ) (done : ℕ) : Type 0 where
   pub fault : Fault
-  pub refused : IsFault bytes fault
+  pub refused : IsFault blocks bytes fault
   pub cut : CutLine (fault_line fault) before after done

@@ -1,3 +1,5 @@
+pub mod Ages
+pub mod Blocks
 pub mod Checks
 pub mod Codes
 pub mod Complete

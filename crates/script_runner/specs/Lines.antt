@@ -1,5 +1,5 @@
 -- What a line that reads payloads off the disk leaves of a book, and the line that a receipt gives.
-use Rattle.std.specs.Prelude.{◌≡◌, ℕ, ◌≤◌, Bool, cond, List, Some, None, Result, Ok, Err, is_some, length}
+use Rattle.std.specs.Prelude.{◌≡◌, ℕ, ◌≤◌, Bool, cond, List, [], Some, None, Result, Ok, Err, is_some, length}
 use Rattle.delf_disk.specs.Areas.{Areas}
 use Rattle.delf_disk.specs.declared.area.Order.{Order}
 use Rattle.delf_disk.specs.Causes.{Rose}
@@ -7,6 +7,8 @@ use Rattle.delf_disk.specs.Plain.{Plain, SameKind}
 use Rattle.delf_model.specs.declared.schema.Schema.{Schema}
 use Rattle.delf_model.specs.declared.call.Call.{Call}
 use Rattle.delf_model.specs.declared.call.Call.TheVariants as call
+use Rattle.delf_model.specs.declared.call.Refusal.{Refusal}
+use Rattle.delf_model.specs.declared.call.Refusal.TheVariants as refusal
 use Rattle.delf_model.specs.Payloads.{Payloads}
 use Rattle.store_laws.specs.Moves.{RestIn}
 use Rattle.delf_book.specs.declared.answers.Receipt.{Receipt}
@@ -15,7 +17,7 @@ use Rattle.job_report.specs.Texts.{created_text, updated_text, linked_text, unli
 use Rattle.script_runner.specs.declared.faults.LineFault.{LineFault}
 use Rattle.script_runner.specs.declared.faults.LineFault.TheVariants.{OutOfMemory, Failed}
 use Rattle.script_runner.specs.Worlds.{World, world_of}
-use Rattle.documents.specs.Names.{edge_name}
+use Rattle.documents.specs.Names.{kind_name, edge_name}
 
 -- what the disk holds stays
 abbrev pub KeepsRest : {G R : Type 0} → (R → Areas → Type 0) → Booked G R → Booked G R → Type 0
@@ -52,6 +54,11 @@ abbrev pub Tells : {G R : Type 0} → (R → Bool) → (R → Bool) → (R → A
 Tells told honest may_leave book said text =
     Plain (told book.rig) (honest book.rig) → (clock : ℕ) (e : Payloads) → RestIn book.rules book.history e (may_leave book.rig) →
     text ≡ said (world_of book clock e)
+
+-- the name that the line of a refusal prints: that of the type that a wrong end has
+abbrev pub refusal_name : Schema → Refusal → List ℕ
+refusal_name schema (refusal.WrongEnd id kind) = kind_name schema kind
+refusal_name schema other = []
 
 -- the line of an accepted call by its receipt
 abbrev pub receipt_text : Schema → Call → Receipt → List ℕ

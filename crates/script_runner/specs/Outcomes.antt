@@ -155,15 +155,15 @@ DocumentText document moment seen first start now images before after status =
     (λ w it. ScriptText document.schema w document.commands start now images before after it) status
 
 -- the sink after bytes were read, by the status; `runs` is said of an accepted document
-abbrev pub BytesText : List ℕ → (Document → Status → Type 0) → List ℕ → List ℕ → Status → Type 0
-BytesText bytes runs before after Usage = ⊥
-BytesText bytes runs before after (BadDocument line) = TellsFault bytes line before after
-BytesText bytes runs before after ReadFault = ⊥
-BytesText bytes runs before after (WriteFault done) =
-    CutsFault bytes before after done ⊎ OfDocument bytes (λ document. runs document (WriteFault done))
-BytesText bytes runs before after (OutOfMemory done) =
-    ((done ≡ 0) × (after ≡ before)) ⊎ OfDocument bytes (λ document. runs document (OutOfMemory done))
-BytesText bytes runs before after status = OfDocument bytes (λ document. runs document status)
+abbrev pub BytesText : Bool → List ℕ → (Document → Status → Type 0) → List ℕ → List ℕ → Status → Type 0
+BytesText blocks bytes runs before after Usage = ⊥
+BytesText blocks bytes runs before after (BadDocument line) = TellsFault blocks bytes line before after
+BytesText blocks bytes runs before after ReadFault = ⊥
+BytesText blocks bytes runs before after (WriteFault done) =
+    CutsFault blocks bytes before after done ⊎ OfDocument blocks bytes (λ document. runs document (WriteFault done))
+BytesText blocks bytes runs before after (OutOfMemory done) =
+    ((done ≡ 0) × (after ≡ before)) ⊎ OfDocument blocks bytes (λ document. runs document (OutOfMemory done))
+BytesText blocks bytes runs before after status = OfDocument blocks bytes (λ document. runs document status)
 
 -- the sink after the words were no command
 abbrev pub UsageText : List ℕ → List ℕ → Status → Type 0
@@ -177,23 +177,23 @@ UsageText before after (Down len) = ⊥
 UsageText before after (BadStore area at) = ⊥
 
 -- the sink after a source was to be read; where it tells its bytes, the document is all that it had left
-abbrev pub SourceText : Bool → List ℕ → (Document → Status → Type 0) → List ℕ → List ℕ → Status → Type 0
-SourceText told left runs before after Usage = ⊥
-SourceText told left runs before after ReadFault = after ≡ before
-SourceText told left runs before after status = IsTrue told → BytesText left runs before after status
+abbrev pub SourceText : Bool → Bool → List ℕ → (Document → Status → Type 0) → List ℕ → List ℕ → Status → Type 0
+SourceText blocks told left runs before after Usage = ⊥
+SourceText blocks told left runs before after ReadFault = after ≡ before
+SourceText blocks told left runs before after status = IsTrue told → BytesText blocks left runs before after status
 
 -- the sink after a load; memory may be wanting before its document is made
-abbrev pub LoadedText : ℕ → (Document → Status → Type 0) → List ℕ → List ℕ → Status → Type 0
-LoadedText n loads before after (OutOfMemory done) = ((done ≡ 0) × (after ≡ before)) ⊎ OfLoad n (λ document. loads document (OutOfMemory done))
-LoadedText n loads before after status = OfLoad n (λ document. loads document status)
+abbrev pub LoadedText : Bool → ℕ → (Document → Status → Type 0) → List ℕ → List ℕ → Status → Type 0
+LoadedText blocks n loads before after (OutOfMemory done) = ((done ≡ 0) × (after ≡ before)) ⊎ OfLoad blocks n (λ document. loads document (OutOfMemory done))
+LoadedText blocks n loads before after status = OfLoad blocks n (λ document. loads document status)
 
 -- the sink after a run, by what its words ask for, if they are a command, and the clock's last answer; `runs` is said of a document
 -- that was read, and `loads` of one that a load makes
-abbrev pub RunText : Option Request → ℕ → Bool → List ℕ → (ℕ → Document → Status → Type 0) → (ℕ → ℕ → Document → Status → Type 0) → List ℕ → List ℕ → Status → Type 0
-RunText None answer told left runs loads before after status = UsageText before after status
-RunText (Some (Run start)) answer told left runs loads before after status = SourceText told left (runs (moment_of_start start answer)) before after status
-RunText (Some Check) answer told left runs loads before after status = CheckText told left before after status
-RunText (Some (Load n)) answer told left runs loads before after status = LoadedText n (loads n answer) before after status
+abbrev pub RunText : Bool → Option Request → ℕ → Bool → List ℕ → (ℕ → Document → Status → Type 0) → (ℕ → ℕ → Document → Status → Type 0) → List ℕ → List ℕ → Status → Type 0
+RunText blocks None answer told left runs loads before after status = UsageText before after status
+RunText blocks (Some (Run start)) answer told left runs loads before after status = SourceText blocks told left (runs (moment_of_start start answer)) before after status
+RunText blocks (Some Check) answer told left runs loads before after status = CheckText blocks told left before after status
+RunText blocks (Some (Load n)) answer told left runs loads before after status = LoadedText blocks n (loads n answer) before after status
 
 -- why commands ended so
 abbrev pub ScriptCause : Type 0 → Type 0 → (Area → ℕ → Type 0) → Status → Type 0
@@ -207,30 +207,30 @@ ScriptCause write_rose rig_rose bad (Down len) = rig_rose
 ScriptCause write_rose rig_rose bad (BadStore area at) = bad area at
 
 -- why a run of bytes that were read ended so, whatever the sink tells; `bad` is why a store of these rules is
-abbrev pub BytesCause : List ℕ → Type 0 → Type 0 → (RuleSet → Area → ℕ → Type 0) → Status → Type 0
-BytesCause bytes write_rose rig_rose bad Done = OfDocument bytes (λ document. Unit {0})
-BytesCause bytes write_rose rig_rose bad Usage = ⊥
-BytesCause bytes write_rose rig_rose bad (BadDocument line) = HasFault bytes line
-BytesCause bytes write_rose rig_rose bad ReadFault = ⊥
-BytesCause bytes write_rose rig_rose bad (WriteFault done) = write_rose
-BytesCause bytes write_rose rig_rose bad (OutOfMemory done) = Unit {0}
-BytesCause bytes write_rose rig_rose bad (Down len) = OfDocument bytes (λ document. rig_rose)
-BytesCause bytes write_rose rig_rose bad (BadStore area at) = OfDocument bytes (λ document. bad document.rules area at)
+abbrev pub BytesCause : Bool → List ℕ → Type 0 → Type 0 → (RuleSet → Area → ℕ → Type 0) → Status → Type 0
+BytesCause blocks bytes write_rose rig_rose bad Done = OfDocument blocks bytes (λ document. Unit {0})
+BytesCause blocks bytes write_rose rig_rose bad Usage = ⊥
+BytesCause blocks bytes write_rose rig_rose bad (BadDocument line) = HasFault blocks bytes line
+BytesCause blocks bytes write_rose rig_rose bad ReadFault = ⊥
+BytesCause blocks bytes write_rose rig_rose bad (WriteFault done) = write_rose
+BytesCause blocks bytes write_rose rig_rose bad (OutOfMemory done) = Unit {0}
+BytesCause blocks bytes write_rose rig_rose bad (Down len) = OfDocument blocks bytes (λ document. rig_rose)
+BytesCause blocks bytes write_rose rig_rose bad (BadStore area at) = OfDocument blocks bytes (λ document. bad document.rules area at)
 
 abbrev pub UsageCause : Type 0 → Status → Type 0
 UsageCause write_rose Usage = Unit {0}
 UsageCause write_rose (WriteFault done) = (done ≡ 0) × write_rose
 UsageCause write_rose status = ⊥
 
-abbrev pub SourceCause : Bool → List ℕ → Type 0 → Type 0 → Type 0 → (RuleSet → Area → ℕ → Type 0) → Status → Type 0
-SourceCause told left read_rose write_rose rig_rose bad Done = IsTrue told → OfDocument left (λ document. Unit {0})
-SourceCause told left read_rose write_rose rig_rose bad Usage = ⊥
-SourceCause told left read_rose write_rose rig_rose bad (BadDocument line) = IsTrue told → HasFault left line
-SourceCause told left read_rose write_rose rig_rose bad ReadFault = read_rose
-SourceCause told left read_rose write_rose rig_rose bad (WriteFault done) = write_rose
-SourceCause told left read_rose write_rose rig_rose bad (OutOfMemory done) = Unit {0}
-SourceCause told left read_rose write_rose rig_rose bad (Down len) = rig_rose × (IsTrue told → OfDocument left (λ document. rig_rose))
-SourceCause told left read_rose write_rose rig_rose bad (BadStore area at) = IsTrue told → OfDocument left (λ document. bad document.rules area at)
+abbrev pub SourceCause : Bool → Bool → List ℕ → Type 0 → Type 0 → Type 0 → (RuleSet → Area → ℕ → Type 0) → Status → Type 0
+SourceCause blocks told left read_rose write_rose rig_rose bad Done = IsTrue told → OfDocument blocks left (λ document. Unit {0})
+SourceCause blocks told left read_rose write_rose rig_rose bad Usage = ⊥
+SourceCause blocks told left read_rose write_rose rig_rose bad (BadDocument line) = IsTrue told → HasFault blocks left line
+SourceCause blocks told left read_rose write_rose rig_rose bad ReadFault = read_rose
+SourceCause blocks told left read_rose write_rose rig_rose bad (WriteFault done) = write_rose
+SourceCause blocks told left read_rose write_rose rig_rose bad (OutOfMemory done) = Unit {0}
+SourceCause blocks told left read_rose write_rose rig_rose bad (Down len) = rig_rose × (IsTrue told → OfDocument blocks left (λ document. rig_rose))
+SourceCause blocks told left read_rose write_rose rig_rose bad (BadStore area at) = IsTrue told → OfDocument blocks left (λ document. bad document.rules area at)
 
 -- why a load ended so; it is one command
 abbrev pub LoadCause : Type 0 → Type 0 → (Area → ℕ → Type 0) → Status → Type 0
@@ -244,12 +244,12 @@ LoadCause write_rose rig_rose bad (Down len) = rig_rose
 LoadCause write_rose rig_rose bad (BadStore area at) = bad area at
 
 -- why a run ended so, whatever the sink tells; of want of memory nothing is said but that the words were a command
-abbrev pub RunCause : Option Request → Bool → List ℕ → Type 0 → Type 0 → Type 0 → (RuleSet → Area → ℕ → Type 0) → Status → Type 0
-RunCause None told left read_rose write_rose rig_rose bad status = UsageCause write_rose status
-RunCause (Some (Run start)) told left read_rose write_rose rig_rose bad status = SourceCause told left read_rose write_rose rig_rose bad status
-RunCause (Some Check) told left read_rose write_rose rig_rose bad status = CheckCause told left read_rose write_rose status
-RunCause (Some (Load n)) told left read_rose write_rose rig_rose bad status =
-    LoadCause write_rose rig_rose (λ area at. OfLoad n (λ document. bad document.rules area at)) status
+abbrev pub RunCause : Bool → Option Request → Bool → List ℕ → Type 0 → Type 0 → Type 0 → (RuleSet → Area → ℕ → Type 0) → Status → Type 0
+RunCause blocks None told left read_rose write_rose rig_rose bad status = UsageCause write_rose status
+RunCause blocks (Some (Run start)) told left read_rose write_rose rig_rose bad status = SourceCause blocks told left read_rose write_rose rig_rose bad status
+RunCause blocks (Some Check) told left read_rose write_rose rig_rose bad status = CheckCause blocks told left read_rose write_rose status
+RunCause blocks (Some (Load n)) told left read_rose write_rose rig_rose bad status =
+    LoadCause write_rose rig_rose (λ area at. OfLoad blocks n (λ document. bad document.rules area at)) status
 
 -- where nothing was run no disk call was made, and no order was given
 abbrev pub Untouched : Type 0 → Status → Type 0
@@ -300,17 +300,17 @@ pub record OrdersMade (commands : List Command) (order : Order) (count : ℕ) (n
   pub made : IsMade status n (length commands)
 
 -- none, where nothing was run
-abbrev pub OrdersOf : List ℕ → Order → ℕ → Order → ℕ → Status → Type 0
-OrdersOf bytes order count next now Done = OfDocument bytes (λ document. OrdersMade document.commands order count next now Done)
-OrdersOf bytes order count next now status =
-    ((next ≡ order) × (now ≡ count)) ⊎ OfDocument bytes (λ document. OrdersMade document.commands order count next now status)
+abbrev pub OrdersOf : Bool → List ℕ → Order → ℕ → Order → ℕ → Status → Type 0
+OrdersOf blocks bytes order count next now Done = OfDocument blocks bytes (λ document. OrdersMade document.commands order count next now Done)
+OrdersOf blocks bytes order count next now status =
+    ((next ≡ order) × (now ≡ count)) ⊎ OfDocument blocks bytes (λ document. OrdersMade document.commands order count next now status)
 
 -- a run alone gives orders
-abbrev pub OrdersBy : Option Request → Bool → List ℕ → Order → ℕ → Order → ℕ → Status → Type 0
-OrdersBy None told left order count next now status = (next ≡ order) × (now ≡ count)
-OrdersBy (Some (Run start)) told left order count next now status = IsTrue told → OrdersOf left order count next now status
-OrdersBy (Some Check) told left order count next now status = (next ≡ order) × (now ≡ count)
-OrdersBy (Some (Load n)) told left order count next now status = (next ≡ order) × (now ≡ count)
+abbrev pub OrdersBy : Bool → Option Request → Bool → List ℕ → Order → ℕ → Order → ℕ → Status → Type 0
+OrdersBy blocks None told left order count next now status = (next ≡ order) × (now ≡ count)
+OrdersBy blocks (Some (Run start)) told left order count next now status = IsTrue told → OrdersOf blocks left order count next now status
+OrdersBy blocks (Some Check) told left order count next now status = (next ≡ order) × (now ≡ count)
+OrdersBy blocks (Some (Load n)) told left order count next now status = (next ≡ order) × (now ≡ count)
 
 -- the clock is asked once, where the words give no moment and a document is accepted or made, and else not at all
 

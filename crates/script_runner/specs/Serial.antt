@@ -1,5 +1,5 @@
 -- The serial meaning of a script: the lines of each command in a world, and the next world.
-use Rattle.std.specs.Prelude.{◌≡◌, ◌≢◌, ℕ, zero, suc, ◌<◌, ◌≤◌, true, false, cond, Option, Some, None, Result, Ok, Err, List, [], ◌∷◌, ◌++◌, ◌⊎◌, length, map, flat_map, slice_get, is_some}
+use Rattle.std.specs.Prelude.{◌≡◌, ◌≢◌, ℕ, zero, suc, ◌<◌, ◌≤◌, Bool, true, false, cond, Option, Some, None, Result, Ok, Err, List, [], ◌∷◌, ◌++◌, ◌⊎◌, length, map, flat_map, slice_get, is_some}
 use Rattle.delf_disk.specs.Causes.{Rose}
 use Rattle.delf_model.specs.declared.schema.Schema.{Schema}
 use Rattle.delf_model.specs.declared.rows.ObjectRow.{ObjectRow}
@@ -15,6 +15,7 @@ use Rattle.delf_model.specs.declared.call.Refusal.TheVariants as refusal
 use Rattle.delf_model.specs.declared.entry.What.{What}
 use Rattle.delf_model.specs.declared.script.Command.{Command}
 use Rattle.delf_model.specs.declared.script.Command.TheVariants.{Submit, Work, Tick, Get, Show, Job, Jobs, Report, Fail, Crash, Par}
+use Rattle.delf_model.specs.declared.script.Lane.{Lane}
 use Rattle.delf_model.specs.Graph.{object_at}
 use Rattle.delf_model.specs.State.{State, JobRow, owner, find_job, job_row}
 use Rattle.delf_model.specs.Owners.{unlink_start}
@@ -31,6 +32,8 @@ use Rattle.delf_book.specs.Parts.{Interrupted}
 use Rattle.delf_book.specs.Books.{given_by, restored_items}
 use Rattle.delf_book.specs.Steps.{PutsItem}
 use Rattle.documents.specs.Names.{kind_name, edge_name}
+use Rattle.script_runner.specs.Blocks.{RunsLanes, LeavesLanes}
+use Rattle.script_runner.specs.Lines.{refusal_name}
 use Rattle.script_runner.specs.Worlds.{World, state_of, now_of, interrupted, entered, with_entry, fallen, mended, later}
 
 -- calls
@@ -38,11 +41,6 @@ use Rattle.script_runner.specs.Worlds.{World, state_of, now_of, interrupted, ent
 -- the answer to a call of seat 0, made now
 abbrev pub answer : World → Call → Result What Refusal
 answer w asked = reply (state_of w) (now_of w) 0 asked
-
--- the name that the line of a refusal prints: that of the type that a wrong end has
-abbrev pub refusal_name : Schema → Refusal → List ℕ
-refusal_name schema (refusal.WrongEnd id kind) = kind_name schema kind
-refusal_name schema other = []
 
 -- the job that an unlink starts
 abbrev pub started_name : State → ℕ → ℕ → ℕ → ℕ → Option ℕ
@@ -188,6 +186,11 @@ pub data Crashes (w : World) (before now : ℕ) (text : List ℕ) (next : World)
   Enters : (it : Interrupted) → w.down ≡ true → w.beside ≡ Some it → now ≡ before → text ≡ opened_text (length next.history) → next ≡ entered w it →
       Crashes w before now text next
 
+-- a block of lanes
+pub data Blocks (schema : Schema) (w : World) (quiet : Bool) (lanes : List Lane) (before now : ℕ) (text : List ℕ) (next : World) : Type 0 where
+  Runs : RunsLanes schema w quiet lanes before now text next → Blocks schema w quiet lanes before now text next
+  WasDown : w.down ≡ true → now ≡ before → text ≡ refused_down w → next ≡ w → Blocks schema w quiet lanes before now text next
+
 -- the lines of a command in a world, and the next world
 abbrev pub Serves : Schema → World → Command → ℕ → ℕ → List ℕ → World → Type 0
 Serves schema w (Submit asked) before now text next = Submits schema w asked before now text next
@@ -200,7 +203,7 @@ Serves schema w Jobs before now text next = Goes (jobs_lines (state_of w)) w bef
 Serves schema w Report before now text next = Reads w (report_line (state_of w)) before now text next
 Serves schema w (Fail n) before now text next = Goes [] w before now text next
 Serves schema w (Crash pick) before now text next = Crashes w before now text next
-Serves schema w (Par quiet workers turns lanes) before now text next = ⊥
+Serves schema w (Par quiet workers turns lanes) before now text next = Blocks schema w quiet lanes before now text next
 
 -- all lines of commands, and the last world
 unfoldable pub Script : Schema → World → List Command → ℕ → ℕ → List ℕ → World → Type 0
@@ -224,4 +227,5 @@ HaltsWork n w next =
 abbrev pub Halts : Command → World → World → Type 0
 Halts (Submit asked) w next = (next ≡ w) ⊎ HaltsCall w asked next
 Halts (Work n) w next = HaltsWork n w next
+Halts (Par quiet workers turns lanes) w next = (next ≡ w) ⊎ LeavesLanes w lanes next
 Halts other w next = next ≡ w

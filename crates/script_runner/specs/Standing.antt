@@ -14,10 +14,11 @@ use Rattle.script_runner.specs.declared.faults.LineFault.{LineFault}
 use Rattle.script_runner.specs.declared.faults.LineFault.TheVariants.{OutOfMemory, Failed}
 use Rattle.script_runner.specs.Serial.{Serves, StepsEnd, Reads, Halts, Script}
 
--- the count of faults never falls, and rose where the book fell
+-- the count of faults never falls, and rose where the book fell; no claim comes or goes
 pub record Falls {G R : Type 0} (faults : R → ℕ) (old now : Booked G R) : Type 0 where
   pub later : faults old.rig ≤ faults now.rig
   pub fell : now.down ≡ true → (old.down ≡ true) ⊎ Rose (faults old.rig) (faults now.rig)
+  pub held : now.held ≡ old.held
 
 -- the world after a command: it stands on the disk
 pub record Carried {G R : Type 0} (may_leave : R → Areas → Type 0) (faults : R → ℕ) (schema : Schema) (command : Command) (w : World) (before : ℕ)
@@ -76,6 +77,11 @@ LineSaid (Err OutOfMemory) text = ⊥
 LineSaid (Err (Failed len)) text = text ≡ down_text len
 
 -- a command that keeps the store open
+abbrev pub IsOpen : Command → Type 0
+IsOpen (Crash pick) = ⊥
+IsOpen other = Unit {0}
+
+-- the same, and no block
 abbrev pub IsServed : Command → Type 0
 IsServed (Crash pick) = ⊥
 IsServed (Par quiet workers turns lanes) = ⊥

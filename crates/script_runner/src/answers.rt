@@ -4,10 +4,9 @@ ghost use Rattle.delf_disk.specs.Plain.{Plain, SameKind};
 ghost use Rattle.delf_model.specs.declared.script.Command.TheVariants.{Submit};
 ghost use Rattle.delf_model.specs.Payloads.{Payloads};
 ghost use Rattle.job_report.specs.Texts.{refusal_text};
-ghost use Rattle.script_runner.specs.Lines.{receipt_text};
+ghost use Rattle.script_runner.specs.Lines.{receipt_text, refusal_name};
 ghost use Rattle.documents.specs.Names.{HasNames, IsNumberedCall};
 ghost use Rattle.script_runner.specs.Names.{IsNamed, IsNumberedRefusal};
-ghost use Rattle.script_runner.specs.Serial.{refusal_name};
 ghost use Rattle.script_runner.specs.Standing.{Falls, Carries, Halted};
 
 use crate::graph::ProgramBook;
@@ -47,8 +46,8 @@ pub(crate) fn submit<R: Rig>(
     }
 }
 
-// The line of an accepted call.
-fn accepted_line(
+/// The line of an accepted call.
+pub(crate) fn accepted_line(
     alloc: Global,
     schema: &Schema,
     call: &Call,
@@ -92,8 +91,8 @@ fn started_name(receipt: &Receipt, name: u32) -> Option<u32>
     }
 }
 
-// The line of a refusal at this length of the history; want of memory has none.
-fn refused_line(
+/// The line of a refusal at this length of the history; want of memory has none.
+pub(crate) fn refused_line(
     alloc: Global,
     schema: &Schema,
     refusal: &Refusal,

@@ -10,7 +10,7 @@ ghost use Rattle.script_runner.specs.Serial.{job_lines, jobs_lines, report_line,
 
 use crate::graph::ProgramBook;
 use crate::names::unprinted_name;
-use crate::readings::{edges, job_lines, line_of, listed, objects};
+use crate::readings::{edges, job_lines, line_of, listed_before, objects};
 use delf_disk::Rig;
 use delf_model::{Bytes, Item, Job, JobLine, JobName, Listed, Schema};
 use documents::{edge_name, joined};
@@ -58,6 +58,7 @@ fn named_line<R: Rig>(book: &ProgramBook<R>, name: JobName) -> Option<JobLine>
     }
 }
 
+// Each is read below the one before, so that all of them cost one pass over where the items of the job stand.
 fn listed_lines<R: Rig>(
     alloc: Global,
     schema: &Schema,
@@ -68,12 +69,14 @@ fn listed_lines<R: Rig>(
     ensures { IfOk result (λ text. text ≡ flat_map (listed_line_of schema.now) (listed_from job 0 (state_in book.now).items)) }
 {
     let mut text = Vec::new(alloc);
-    for place in 0..book.len() {
-        let Some(row) = listed(book, job, place) else {
+    let mut below = book.len();
+    'rows: while below > 0 {
+        let Some(row) = listed_before(book, job, below) else {
             return Ok(Bytes::from_vec(text));
         };
         let line = listed_row_line(alloc, schema, book, &row)?;
         text.extend_from_slice(line.as_slice())?;
+        below = row.item;
     }
     Ok(Bytes::from_vec(text))
 }

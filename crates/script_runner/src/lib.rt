@@ -2,19 +2,21 @@
 #![tactic(auto)]
 
 mod answers;
+mod blocks;
 mod check;
 mod faults;
 mod graph;
 mod jobs;
+mod lanes;
 mod loading;
 mod names;
+mod program;
 mod readings;
-mod run;
 mod script;
 mod shows;
 mod status;
 mod store;
 
 pub use graph::{ProgramBook, ProgramGraph};
-pub use run::run_plain;
+pub use program::run_plain;
 pub use status::Status;

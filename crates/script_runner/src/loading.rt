@@ -1,5 +1,5 @@
 //! A load: the generated script is made, the store is settled, and one line is put.
-ghost use Rattle.std.specs.Prelude.{◌≡◌, ◌⊎◌, ◌≤◌, true, false, IsTrue, IfOk, OnOk, OnErr};
+ghost use Rattle.std.specs.Prelude.{◌≡◌, ◌⊎◌, ◌≤◌, true, false, IsTrue, IfOk, OnOk, OnErr, []};
 ghost use Rattle.std.specs.List.{All};
 ghost use Rattle.delf_disk.specs.Causes.{Rose as DiskRose};
 ghost use Rattle.delf_disk.specs.Plain.{Plain, SameKind};
@@ -8,20 +8,22 @@ ghost use Rattle.delf_model.specs.Legal.{Legal};
 ghost use Rattle.delf_model.specs.Payloads.{Payloads};
 ghost use Rattle.delf_model.specs.Sound.{Sound};
 ghost use Rattle.delf_book.specs.Books.{state_in};
+ghost use Rattle.script_runner.specs.Blocks.{IsRunner};
 ghost use Rattle.script_runner.specs.Endings.{EndCause};
 ghost use Rattle.script_runner.specs.LoadEnds.{LoadText, LoadScriptText, LoadEndText, PutsLine, StarvesAmong};
 ghost use Rattle.documents.specs.Loads.{IsStill};
 ghost use Rattle.script_runner.specs.LoadEnds.{loaded_line};
-ghost use Rattle.documents.specs.Names.{HasNames, IsNumberedCommand};
+ghost use Rattle.documents.specs.Names.{HasNames, HasNoLanes, IsNumberedCommand};
 ghost use Rattle.script_runner.specs.Outcomes.{IsBad, LoadedText, LoadCause, AsksOnce};
 ghost use Rattle.documents.specs.Loads.{OfLoad};
 ghost use Rattle.script_runner.specs.Standing.{Falls, Leads};
 ghost use Rattle.script_runner.specs.Worlds.{StandsOn, world_of};
 
+use crate::blocks::{Blocks, Outs};
 use crate::graph::ProgramBook;
+use crate::lanes::serve;
+use crate::program::{put_down, put_unopened};
 use crate::readings::{edges, job_lines, objects};
-use crate::run::{put_down, put_unopened};
-use crate::script::perform;
 use crate::status::Status;
 use crate::store::Store;
 use delf_book::BookFault;
@@ -34,8 +36,9 @@ use std::alloc::{AllocError, Global};
 
 /// Makes a load of `n` objects, 8 to 20,000, over the store on `rig`, at the moment that the clock answers, and puts its line
 /// to `sink`. The disk comes back.
-pub(crate) fn run_load<K: Sink, R: Rig, C: Clock>(
+pub(crate) fn run_load<K: Sink, R: Rig, C: Clock, B: Blocks<Store<R>, Outs>>(
     alloc: Global,
+    blocks: &B,
     n: u32,
     sink: &mut K,
     rig: R,
@@ -43,9 +46,10 @@ pub(crate) fn run_load<K: Sink, R: Rig, C: Clock>(
 ) -> (Status, R)
     requires above { 8 ≤ n }
     requires below { n ≤ 20000 }
+    requires ready { IsRunner B.served R.Disk (λ store. store.book) (λ store. store.clock) (λ v. v.items) (B.may blocks.now) (B.ran blocks.now) }
     ensures cause { LoadCause (Rose (K.faults sink.old) (K.faults sink.new)) (DiskRose (R.Disk.faults rig) (R.Disk.faults result.1))
-        (λ area at. OfLoad n (λ document. Plain (R.Disk.told rig) (R.Disk.honest rig) → IsBad document.rules (R.Disk.seen rig) area at)) result.0 }
-    ensures text { IsTrue (K.told sink.old) → LoadedText n (λ document status. Plain (R.Disk.told rig) (R.Disk.honest rig)
+        (λ area at. OfLoad B.served n (λ document. Plain (R.Disk.told rig) (R.Disk.honest rig) → IsBad document.rules (R.Disk.seen rig) area at)) result.0 }
+    ensures text { IsTrue (K.told sink.old) → LoadedText B.served n (λ document status. Plain (R.Disk.told rig) (R.Disk.honest rig)
         → LoadText n document (C.last_answer clock.new) (R.Disk.seen rig) (R.Disk.may_leave rig)
         (R.Disk.faults rig) (R.Disk.faults result.1) (R.Disk.may_leave result.1) (K.held sink.old) (K.held sink.new) status)
         (K.held sink.old) (K.held sink.new) result.0 }
@@ -55,16 +59,17 @@ pub(crate) fn run_load<K: Sink, R: Rig, C: Clock>(
     ensures kind { SameKind R.Disk.told R.Disk.honest R.Disk.order R.Disk.orders rig result.1 }
     ensures asked { AsksOnce result.0 (C.times_asked clock.old) (C.times_asked clock.new) }
 {
-    let Ok(document) = load_document(alloc, n) else {
+    let Ok(document) = load_document(alloc, n, blocks.are_served()) else {
         return (Status::OutOfMemory { done: 0 }, rig);
     };
     let moment = clock.now();
-    load_into(alloc, n, moment, document, sink, rig)
+    load_into(alloc, blocks, n, moment, document, sink, rig)
 }
 
 // Opens the store, and makes the commands of a load.
-fn load_into<K: Sink, R: Rig>(
+fn load_into<K: Sink, R: Rig, B: Blocks<Store<R>, Outs>>(
     alloc: Global,
+    blocks: &B,
     n: u32,
     moment: Moment,
     document: Document,
@@ -74,6 +79,8 @@ fn load_into<K: Sink, R: Rig>(
     requires named { HasNames document.schema document.rules }
     requires numbered { All (IsNumberedCommand document.rules) document.commands }
     requires still { All IsStill document.commands }
+    requires lanes { B.served ≡ false → All HasNoLanes document.commands }
+    requires ready { IsRunner B.served R.Disk (λ store. store.book) (λ store. store.clock) (λ v. v.items) (B.may blocks.now) (B.ran blocks.now) }
     ensures cause { LoadCause (Rose (K.faults sink.old) (K.faults sink.new)) (DiskRose (R.Disk.faults rig) (R.Disk.faults result.1))
         (λ area at. Plain (R.Disk.told rig) (R.Disk.honest rig) → IsBad document.rules (R.Disk.seen rig) area at) result.0 }
     ensures text { IsTrue (K.told sink.old) → Plain (R.Disk.told rig) (R.Disk.honest rig) → LoadText n document moment (R.Disk.seen rig) (R.Disk.may_leave rig)
@@ -89,24 +96,28 @@ fn load_into<K: Sink, R: Rig>(
         commands,
     } = document;
     match Store::open(alloc, rules, rig, moment.min(GREATEST_MOMENT)) {
-        Ok(store) => make_load(alloc, n, &schema, store, commands.as_slice(), sink),
+        Ok(store) => make_load(alloc, blocks, n, &schema, store, commands.as_slice(), sink),
         Err((fault, rig)) => (put_unopened(alloc, fault, 0, sink), rig),
     }
 }
 
 // Makes the commands of a load, and ends it.
-fn make_load<K: Sink, R: Rig>(
+fn make_load<K: Sink, R: Rig, B: Blocks<Store<R>, Outs>>(
     alloc: Global,
+    blocks: &B,
     n: u32,
     schema: &Schema,
-    mut store: Store<R>,
+    store: Store<R>,
     commands: &[Command],
     sink: &mut K,
 ) -> (Status, R)
     requires up { store.book.down ≡ false }
+    requires unclaimed { store.book.held ≡ [] }
     requires named { HasNames schema.now store.book.rules }
     requires numbered { All (IsNumberedCommand store.book.rules) commands.now }
     requires still { All IsStill commands.now }
+    requires lanes { B.served ≡ false → All HasNoLanes commands.now }
+    requires ready { IsRunner B.served R.Disk (λ store. store.book) (λ store. store.clock) (λ v. v.items) (B.may blocks.now) (B.ran blocks.now) }
     ensures cause { LoadCause (Rose (K.faults sink.old) (K.faults sink.new)) (DiskRose (R.Disk.faults store.book.rig) (R.Disk.faults result.1))
         (λ area at. ⊥) result.0 }
     ensures text { IsTrue (K.told sink.old) → Plain (R.Disk.told store.book.rig) (R.Disk.honest store.book.rig) → (e : Payloads)
@@ -118,9 +129,10 @@ fn make_load<K: Sink, R: Rig>(
     ensures rig_faults { R.Disk.faults store.book.rig ≤ R.Disk.faults result.1 }
     ensures kind { SameKind R.Disk.told R.Disk.honest R.Disk.order R.Disk.orders store.book.rig result.1 }
 {
-    match make_all(alloc, schema, &mut store, commands) {
+    let (store, made) = make_all(alloc, blocks, schema, store, commands);
+    match made {
         Ok(()) => finish_load(alloc, n, store, sink),
-        Err(_) => {
+        Err(AllocError) => {
             let Store { book, clock: _ } = store;
             (Status::OutOfMemory { done: 0 }, book.into_disk())
         }
@@ -128,28 +140,37 @@ fn make_load<K: Sink, R: Rig>(
 }
 
 // Makes the commands one by one; their lines are not put. The only error is want of memory.
-fn make_all<R: Rig>(
+fn make_all<R: Rig, B: Blocks<Store<R>, Outs>>(
     alloc: Global,
+    blocks: &B,
     schema: &Schema,
-    store: &mut Store<R>,
+    mut store: Store<R>,
     commands: &[Command],
-) -> Result<(), AllocError>
-    requires named { HasNames schema.now store.old.book.rules }
-    requires numbered { All (IsNumberedCommand store.old.book.rules) commands.now }
+) -> (Store<R>, Result<(), AllocError>)
+    requires named { HasNames schema.now store.book.rules }
+    requires numbered { All (IsNumberedCommand store.book.rules) commands.now }
     requires still { All IsStill commands.now }
-    ensures made { OnOk result (Plain (R.Disk.told store.old.book.rig) (R.Disk.honest store.old.book.rig) → (e : Payloads)
-        → StandsOn (world_of store.old.book store.old.clock e) (R.Disk.may_leave store.old.book.rig)
-        → Leads R.Disk.may_leave R.Disk.faults schema.now (world_of store.old.book store.old.clock e) commands.now (R.Disk.faults store.old.book.rig) store.new.book store.new.clock) }
-    ensures starves { OnErr result (Plain (R.Disk.told store.old.book.rig) (R.Disk.honest store.old.book.rig) → (e : Payloads)
-        → StandsOn (world_of store.old.book store.old.clock e) (R.Disk.may_leave store.old.book.rig)
-        → StarvesAmong schema.now (world_of store.old.book store.old.clock e) commands.now (R.Disk.faults store.old.book.rig) (R.Disk.may_leave store.new.book.rig)) }
-    ensures kind { SameKind R.Disk.told R.Disk.honest R.Disk.order R.Disk.orders store.old.book.rig store.new.book.rig }
-    ensures cause { Falls R.Disk.faults store.old.book store.new.book }
+    requires unclaimed { store.book.held ≡ [] }
+    requires lanes { B.served ≡ false → All HasNoLanes commands.now }
+    requires ready { IsRunner B.served R.Disk (λ store. store.book) (λ store. store.clock) (λ v. v.items) (B.may blocks.now) (B.ran blocks.now) }
+    ensures made { OnOk result.1 (Plain (R.Disk.told store.book.rig) (R.Disk.honest store.book.rig) → (e : Payloads)
+        → StandsOn (world_of store.book store.clock e) (R.Disk.may_leave store.book.rig)
+        → Leads R.Disk.may_leave R.Disk.faults schema.now (world_of store.book store.clock e) commands.now (R.Disk.faults store.book.rig) result.0.book result.0.clock) }
+    ensures starves { OnErr result.1 (Plain (R.Disk.told store.book.rig) (R.Disk.honest store.book.rig) → (e : Payloads)
+        → StandsOn (world_of store.book store.clock e) (R.Disk.may_leave store.book.rig)
+        → StarvesAmong schema.now (world_of store.book store.clock e) commands.now (R.Disk.faults store.book.rig) (R.Disk.may_leave result.0.book.rig)) }
+    ensures kind { SameKind R.Disk.told R.Disk.honest R.Disk.order R.Disk.orders store.book.rig result.0.book.rig }
+    ensures cause { Falls R.Disk.faults store.book result.0.book }
 {
     for command in commands {
-        perform(alloc, schema, store, command)?;
+        let (next, lines) = serve(alloc, blocks, schema, store, command);
+        store = next;
+        match lines {
+            Ok(_) => {}
+            Err(AllocError) => return (store, Err(AllocError)),
+        }
     }
-    Ok(())
+    (store, Ok(()))
 }
 
 // Settles the store after the commands of a load, and puts its line.

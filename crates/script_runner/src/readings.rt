@@ -1,10 +1,11 @@
 //! What lines tell of a book.
-ghost use Rattle.std.specs.Prelude.{◌≡◌, ◌≤◌, ◌++◌, IfOk, IfSome, IsTrue, OnOk, length, map, option_to_list};
+ghost use Rattle.std.specs.Prelude.{◌≡◌, ◌≤◌, ◌<◌, ◌++◌, ℕ, true, false, IfOk, IfSome, IsTrue, OnOk, length, map, option_to_list, slice_get, take};
 ghost use Rattle.std.specs.List.{AllByRecursion};
 ghost use Rattle.delf_model.specs.Graph.{object_at, objects_rise, edges_rise};
 ghost use Rattle.delf_model.specs.State.{job_row};
-ghost use Rattle.delf_model.specs.Report.{job_at, job_line, line_of_row, listed_at};
+ghost use Rattle.delf_model.specs.Report.{job_at, job_line, line_of_row, listed_from};
 ghost use Rattle.delf_book.specs.Books.{state_in};
+ghost use Rattle.script_runner.specs.Ages.{is_earlier};
 ghost use Rattle.script_runner.specs.Names.{IsNumberedObject, IsNumberedEdge, IsNumberedListed};
 
 use crate::graph::ProgramBook;
@@ -92,22 +93,51 @@ fn add_line<R: Rig>(
 pub(crate) fn line_of<R: Rig>(book: &ProgramBook<R>, job: Job) -> Option<JobLine>
     ensures { result ≡ line_of_row (state_in book.now) (job_row (state_in book.now).jobs job) }
 {
-    for place in 0..book.len() {
-        let Some(line) = book.job_at(place) else {
-            return None;
-        };
-        if line.job.0 == job.0 {
-            return Some(line);
-        }
+    let _len = book.len();
+    let place = place_of(book, job);
+    let Some(line) = book.job_at(place) else {
+        return None;
+    };
+    if line.job.0 == job.0 {
+        Some(line)
+    } else {
+        None
     }
-    None
 }
 
-/// The listed item of the job at this place, by falling item number.
-pub(crate) fn listed<R: Rig>(book: &ProgramBook<R>, job: Job, place: u32) -> Option<Listed>
-    ensures listed { result ≡ listed_at (state_in book.now) job place }
+// The place of the first job that was started no earlier, by halving: jobs go by rising position.
+fn place_of<R: Rig>(book: &ProgramBook<R>, job: Job) -> u32
+    ensures before { (k : ℕ) → k < result → is_earlier job (slice_get (state_in book.now).jobs k) ≡ true }
+    ensures behind { (k : ℕ) → result ≤ k → is_earlier job (slice_get (state_in book.now).jobs k) ≡ false }
+{
+    let mut low = 0;
+    let mut high = book.len();
+    'halves: while low < high {
+        let middle = low + (high - low) / 2;
+        if starts_earlier(book, middle, job) {
+            low = middle + 1;
+        } else {
+            high = middle;
+        }
+    }
+    low
+}
+
+// Whether there is a job at this place, and it was started earlier.
+fn starts_earlier<R: Rig>(book: &ProgramBook<R>, place: u32, job: Job) -> bool
+    ensures { result ≡ is_earlier job (slice_get (state_in book.now).jobs place) }
+{
+    match book.job_at(place) {
+        Some(line) => line.job.0 < job.0,
+        None => false,
+    }
+}
+
+/// The listed item of the job with the greatest number below this one.
+pub(crate) fn listed_before<R: Rig>(book: &ProgramBook<R>, job: Job, below: u32) -> Option<Listed>
+    ensures listed { result ≡ slice_get (listed_from job 0 (take below (state_in book.now).items)) 0 }
     ensures numbered { IfSome result (IsNumberedListed book.now.rules) }
 {
     let _len = book.len();
-    book.listed_at(job, place)
+    book.listed_before(job, below)
 }

@@ -37,6 +37,7 @@ pub(crate) fn perform<R: Rig>(
     requires named { HasNames schema.now store.old.book.rules }
     requires numbered { IsNumberedCommand store.old.book.rules command.now }
     requires served { IsServed command.now }
+    requires unclaimed { store.old.book.held ≡ [] }
     ensures rules { store.new.book.rules ≡ store.old.book.rules }
     ensures serves { IfOk result (λ text. Plain (R.Disk.told store.old.book.rig) (R.Disk.honest store.old.book.rig) → (e : Payloads)
         → Carries R.Disk.may_leave R.Disk.faults schema.now command.now store.old.book store.new.book store.old.clock store.new.clock e text) }
@@ -75,6 +76,7 @@ fn work<R: Rig>(
     clock: Moment,
     n: u32,
 ) -> Result<Bytes, AllocError>
+    requires unclaimed { book.old.held ≡ [] }
     ensures rules { book.new.rules ≡ book.old.rules }
     ensures serves { IfOk result (λ text. Plain (R.Disk.told book.old.rig) (R.Disk.honest book.old.rig) → (schema : ASchema) (e : Payloads)
         → Carries R.Disk.may_leave R.Disk.faults schema (Work n) book.old book.new clock clock e text) }
@@ -99,6 +101,7 @@ fn make_steps<R: Rig>(
     n: u32,
 ) -> Result<(u32, WorkEnd), AllocError>
     requires up { book.old.down ≡ false }
+    requires unclaimed { book.old.held ≡ [] }
     ensures rules { book.new.rules ≡ book.old.rules }
     ensures made { IfOk result (λ it. it.0 ≤ n) }
     ensures steps { IfOk result (λ it. Plain (R.Disk.told book.old.rig) (R.Disk.honest book.old.rig) → (e : Payloads)
@@ -212,8 +215,8 @@ fn told_or_down(alloc: Global, told: Result<Bytes, LineFault>) -> Result<Bytes, 
     }
 }
 
-// The line that is printed while the store is down.
-fn down_refused(alloc: Global, len: u32) -> Result<Bytes, AllocError>
+/// The line that is printed while the store is down.
+pub(crate) fn down_refused(alloc: Global, len: u32) -> Result<Bytes, AllocError>
     ensures { IfOk result (λ text. text ≡ refusal_text (refused.Down len) len []) }
 {
     refusal_line(alloc, &Refusal::Down { len }, len, &unprinted_name(alloc)?)

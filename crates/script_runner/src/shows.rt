@@ -1,12 +1,12 @@
 //! Lines that tell payloads, which are read off the disk.
-ghost use Rattle.std.specs.Prelude.{◌≡◌, ◌++◌, ◌≤◌, false, ℕ, IfOk, IfErr, Some, Ok, flat_map, length, take};
+ghost use Rattle.std.specs.Prelude.{◌≡◌, ◌++◌, ◌<◌, ◌≤◌, false, ℕ, IfOk, IfErr, Some, Ok, flat_map, length, take};
 ghost use Rattle.std.specs.List.{AllByRecursion};
 ghost use Rattle.delf_model.specs.Graph.{object_at, edge_at};
 ghost use Rattle.delf_model.specs.Payloads.{payload_at};
 ghost use Rattle.delf_book.specs.Books.{state_in};
-ghost use Rattle.job_report.specs.Texts.{graph_text};
+ghost use Rattle.job_report.specs.Texts.{graph_text, found_text as found_text_of};
 ghost use Rattle.script_runner.specs.Lines.{LineLeaves, Tells};
-ghost use Rattle.documents.specs.Names.{HasNames};
+ghost use Rattle.documents.specs.Names.{HasNames, kind_name as kind_name_of};
 ghost use Rattle.script_runner.specs.Names.{IsNumberedObject, IsNumberedEdge};
 ghost use Rattle.script_runner.specs.Serial.{row_found, graph_lines, object_line as object_line_of, edge_line as edge_line_of};
 
@@ -15,7 +15,7 @@ use crate::graph::ProgramBook;
 use crate::readings::{edges, object, objects};
 use delf_book::BookFault;
 use delf_disk::Rig;
-use delf_model::{Bytes, EdgeKey, EdgeRow, LIMIT, ObjectId, ObjectRow, Schema};
+use delf_model::{Bytes, EdgeKey, EdgeRow, Job, LIMIT, ObjectId, ObjectRow, Schema};
 use documents::{edge_name, kind_name};
 use job_report::{absent_line, edge_line, found_line, graph_line, object_line};
 use std::alloc::{AllocError, Global};
@@ -57,8 +57,22 @@ fn found_row<R: Rig>(
     let owner = book.owner(row.id);
     let mut bytes = [0u8; LIMIT];
     let size = object_payload(book, row, &mut bytes)?;
-    let name = kind_name(schema, row.kind);
-    line_or(found_line(alloc, len, row, name, &bytes[..size], owner))
+    line_or(found_text(alloc, schema, len, row, owner, &bytes[..size]))
+}
+
+/// The line of a row of the graph with this owner and payload.
+pub(crate) fn found_text(
+    alloc: Global,
+    schema: &Schema,
+    len: u32,
+    row: &ObjectRow,
+    owner: Option<Job>,
+    payload: &[u8],
+) -> Result<Bytes, AllocError>
+    requires { row.now.kind < length schema.now.objects }
+    ensures { IfOk result (λ text. text ≡ found_text_of len row.now (kind_name_of schema.now row.now.kind) payload.now owner) }
+{
+    found_line(alloc, len, row, kind_name(schema, row.kind), payload, owner)
 }
 
 // Reads the payload of a row of the graph to the front of `bytes`, and gives its size.

@@ -1,5 +1,5 @@
 //! A store: what a script runs against.
-ghost use Rattle.std.specs.Prelude.{◌≡◌, ◌+◌, ◌⊎◌, min, false, None, IfOk, IfErr, List, length};
+ghost use Rattle.std.specs.Prelude.{◌≡◌, ◌+◌, ◌⊎◌, min, false, None, IfOk, IfErr, List, length, []};
 ghost use Rattle.delf_disk.specs.Areas.{Areas};
 ghost use Rattle.delf_disk.specs.Plain.{Plain, SameKind, SameTelling};
 ghost use Rattle.delf_model.specs.declared.entry.Entry.{Entry};
@@ -39,6 +39,7 @@ impl<R: Rig> Store<R> {
         ensures clock { IfOk result (λ store. store.clock ≡ clock) }
         ensures up { IfOk result (λ store. store.book.down ≡ false) }
         ensures beside { IfOk result (λ store. store.book.beside ≡ None) }
+        ensures unclaimed { IfOk result (λ store. store.book.held ≡ []) }
         ensures found { IfOk result (λ store. Plain (R.Disk.told rig) (R.Disk.honest rig)
             → StandsNow rules store.book.history (R.Disk.seen rig)) }
         ensures opened { IfOk result (λ store. Plain (R.Disk.told rig) (R.Disk.honest rig) → (history : List Entry) (e : Payloads)
@@ -89,6 +90,7 @@ pub(crate) fn crash<R: Rig>(
     ensures stops { IfErr result (λ it. Plain (R.Disk.told store.book.rig) (R.Disk.honest store.book.rig) → (e : Payloads)
         → Stops R.Disk.may_leave (Crash pick) store.book store.clock e it.1 it.0) }
     ensures up { IfOk result (λ next. next.book.down ≡ false) }
+    ensures unclaimed { IfOk result (λ next. next.book.held ≡ []) }
     ensures ok_telling { IfOk result (λ next. SameTelling R.Disk.told R.Disk.honest store.book.rig next.book.rig) }
     ensures err_telling { IfErr result (λ it. SameTelling R.Disk.told R.Disk.honest store.book.rig it.1) }
     ensures ok_orders { IfOk result (λ next. Gives (Crash pick) (R.Disk.order store.book.rig) (R.Disk.orders store.book.rig) (R.Disk.order next.book.rig) (R.Disk.orders next.book.rig)) }

@@ -1,6 +1,7 @@
-use Rattle.std.proofs.Common.{◌≤◌, length, subst, arith}
+use Rattle.std.proofs.Common.{◌≤◌, length, ◌∙◌, subst, arith}
 use Rattle.delf_model.specs.RuleSet.{RuleSet}
-use Rattle.delf_book.proofs.Taking.{Fit, row_found, found_fit, found_none}
+use Rattle.delf_model.specs.Step.{after}
+use Rattle.delf_book.proofs.Taking.{Fit, row_found, found_fit, found_none, would_log_is}
 use Rattle.delf_book.proofs.erasing.row_of.Given as given
 use Rattle.delf_book.proofs.erasing.row_of.Goals as goal
 
@@ -22,6 +23,11 @@ fit g c =
 
 pub returns-clause-row : goal.returns-clause-row
 returns-clause-row g c = (fit g c).takes
+
+pub returns-clause-logs : goal.returns-clause-logs
+returns-clause-logs g c =
+    let l = c.args.ledger.now in
+    would_log_is (after l.rules l.history) c.args.entry.now.what ∙ (fit g c).first
 
 pub returns-clause-largest : goal.returns-clause-largest
 returns-clause-largest g c = (fit g c).size

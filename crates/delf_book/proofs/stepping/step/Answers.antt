@@ -8,6 +8,7 @@ use Rattle.delf_model.specs.RuleSet.{RuleSet}
 use Rattle.delf_model.specs.Step.{after}
 use Rattle.delf_model.specs.Payloads.{Payloads}
 use Rattle.store_laws.specs.Moves.{RestIn}
+use Rattle.delf_book.specs.Claims.{room_for}
 use Rattle.delf_book.specs.Stepping.{TellsWhy, IfDamaged}
 use Rattle.delf_book.specs.Steps.{TellsDamage}
 use Rattle.delf_book.specs.Writing.{Rests}
@@ -55,6 +56,6 @@ pub returns-clause-up : goal.returns-clause-up
 returns-clause-up g c = record {
   logs = c.in_ok-make_step.ensures.logs;
   carried = c.in_ok-make_step.ensures.carriers;
-  room = c.in_ok-make_step.ensures.room c.in_ok-left.left c.in_ok-left.ensures.room;
+  room = c.in_ok-make_step.ensures.room (room_for c.in_ok-left.left c.args.claims) c.in_ok-left.ensures.room;
   areas = λ plain. c.in_ok-make_step.ensures.areas (was_plain c.make_step.ensures.kind plain);
 }

@@ -2,9 +2,9 @@ use Rattle.std.proofs.Common.{◌∙◌, ap, subst, sym}
 use Rattle.delf_model.specs.Broken.{IsFirstBroken, IsJudgeFault}
 use Rattle.delf_model.specs.Checked.{IsChecked}
 use Rattle.delf_model.proofs.CheckedLemmas.{IsFirstBroken-refutes}
-use Rattle.documents.specs.Loads.{load_commands}
+use Rattle.documents.specs.Loads.{commands_of}
 use Rattle.documents.proofs.Documents.{has_names}
-use Rattle.documents.proofs.Generated.{generated_checked, load_numbered, load_still}
+use Rattle.documents.proofs.Generated.{generated_checked, load_numbered, load_still, load_laneless}
 use Rattle.documents.proofs.load.load_document.Goals as goal
 
 pub unreachable-requires : goal.unreachable-requires
@@ -15,11 +15,13 @@ unreachable-requires c =
 
 pub returns-clause-numbered : goal.returns-clause-numbered
 returns-clause-numbered c =
-    load_numbered c.in_ok-schema.schema c.in-Ok.rules c.in_ok-schema.script c.in_ok-commands.commands
+    load_numbered c.in_ok-schema.schema c.args.blocks c.args.n c.in-Ok.rules c.in_ok-schema.script c.in_ok-commands.commands
     (has_names c.in_ok-schema.schema c.in-Ok.rules c.in-Ok.ensures.value) c.in_ok-schema.ensures.names
-    (c.in_ok-commands.ensures ∙ ap load_commands c.as_slice.ensures)
+    c.in_ok-schema.ensures.script c.in_ok-commands.ensures
 
 pub returns-clause-still : goal.returns-clause-still
-returns-clause-still c =
-    load_still c.args.n c.in_ok-commands.commands
-    (c.in_ok-commands.ensures ∙ ap load_commands (c.as_slice.ensures ∙ c.in_ok-schema.ensures.script))
+returns-clause-still c = load_still c.args.blocks c.args.n c.in_ok-commands.commands (c.in_ok-commands.ensures ∙ ap (commands_of c.args.blocks) c.in_ok-schema.ensures.script)
+
+pub returns-clause-lanes : goal.returns-clause-lanes
+returns-clause-lanes c without =
+    load_laneless c.args.blocks c.args.n c.in_ok-commands.commands without (c.in_ok-commands.ensures ∙ ap (commands_of c.args.blocks) c.in_ok-schema.ensures.script)

@@ -1,7 +1,7 @@
 use Rattle.script_runner.proofs.Calls.{accepted_carries, accepted_halts, refused_carries, refused_halts, refused_rules, refused_falls, refusal_named, if_ok, ok_is, on_err}
 use Rattle.std.proofs.Common.{ℕ, ap, ◌∙◌}
 use Rattle.job_report.specs.Texts.{refusal_text}
-use Rattle.script_runner.specs.Serial.{refusal_name}
+use Rattle.script_runner.specs.Lines.{refusal_name}
 use Rattle.std.proofs.lemmas.Result.{IfOk-weaker}
 use Rattle.delf_model.specs.Room.{moment_of}
 use Rattle.delf_book.specs.Books.{state_in}

@@ -8,7 +8,7 @@ returns-in-Ok-clause-cause g c =
     let read : List ℕ = c.as_slice.result.now in
     let left = g.S.Source.left c.args.source.now in
     let rest = g.S.Source.left c.read_at_most.new.source in
-    check_cause (g.S.Source.told c.args.source.now) left read rest _ _ c.check_bytes.result
+    check_cause c.args.blocks (g.S.Source.told c.args.source.now) left read rest _ _ c.check_bytes.result
     (λ told. subst (λ (t : List ℕ). left ≡ t ++ rest) (sym c.as_slice.ensures.value) (c.in-Ok.ensures.taken told))
     (λ told short. c.in-Ok.ensures.whole told (omega (arith, c.as_slice.ensures.len))) c.check_bytes.ensures.cause
 
@@ -17,7 +17,7 @@ returns-in-Ok-clause-text g c = λ sunk.
     let read : List ℕ = c.as_slice.result.now in
     let left = g.S.Source.left c.args.source.now in
     let rest = g.S.Source.left c.read_at_most.new.source in
-    check_text (g.S.Source.told c.args.source.now) left read rest _ _ c.check_bytes.result
+    check_text c.args.blocks (g.S.Source.told c.args.source.now) left read rest _ _ c.check_bytes.result
     (λ told. subst (λ (t : List ℕ). left ≡ t ++ rest) (sym c.as_slice.ensures.value) (c.in-Ok.ensures.taken told))
     (λ told short. c.in-Ok.ensures.whole told (omega (arith, c.as_slice.ensures.len))) (c.check_bytes.ensures.text sunk)
 

@@ -1,3 +1,6 @@
+use Rattle.std.proofs.Common.{ℕ, inl, inr, sym, ap, subst}
+use Rattle.delf_disk.specs.Causes.{Rose}
+use Rattle.script_runner.proofs.Endings.{put_ended, down_ended}
 use Rattle.script_runner.proofs.LoadSteps.{loaded_end, was_down_end, fell_load}
 use Rattle.script_runner.proofs.loading.finish_load.Goals.{in-Ok, in-Err-Down, in-Err-DiskFault}
 use Rattle.script_runner.proofs.loading.finish_load.Goals as goal
@@ -24,4 +27,21 @@ returns-clause-text g c = λ told plain e stands.
           fell_load g.R.Disk.may_leave g.R.Disk.faults c.args.n old c.settle.new.self.rig c.into_disk.result clock at.len e _ _ _ w.put_down-status-in-Err-DiskFault.result c.into_disk.ensures
           c.len-len.ensures.legal answer.0 cause.1 answer.2 (λ d image. (at.ensures.crash plain answer.0 e (stands.rests answer.0)).now d image) stands
           (w.put_down-status-in-Err-DiskFault.ensures.text told) w.put_down-status-in-Err-DiskFault.ensures.cause))
+    ]
+
+pub returns-clause-cause : goal.returns-clause-cause
+returns-clause-cause g c =
+    let before = g.R.Disk.faults c.args.store.book.rig in
+    elim c.match-settle.branch [
+      | in-Ok w ↦ rw w.status-is (rw w.sink-is (put_ended 0 _ _ w.put_loaded-status.result w.put_loaded-status.ensures.cause))
+      | in-Err-Down w ↦ rw w.status-is (rw w.sink-is (
+          let at = w.in-Err-Down in
+          let answer = rw at.field-0-is at at.ensures.answer in
+          down_ended at.len 0 _ _ w.put_down-status.result (inl answer.0) w.put_down-status.ensures.cause))
+      | in-Err-DiskFault w ↦ rw w.status-is (rw w.sink-is (
+          let at = w.in-Err-DiskFault in
+          let cause = rw at.field-0-is at at.ensures.cause in
+          let rose : Rose before (g.R.Disk.faults c.into_disk.result) =
+          subst (λ (k : ℕ). Rose before k) (sym (ap g.R.Disk.faults c.into_disk.ensures)) cause.1 in
+          down_ended at.len 0 _ _ w.put_down-status-in-Err-DiskFault.result (inr rose) w.put_down-status-in-Err-DiskFault.ensures.cause))
     ]

@@ -9,6 +9,7 @@ pub loop-made-init : goal.loop-made-init
 loop-made-init g c = record {
   up = c.requires.up;
   rules = refl;
+  held = refl;
   count = refl;
   kind = kind_stays g.R.Disk.told g.R.Disk.honest g.R.Disk.order g.R.Disk.orders c.args.book.now.rig;
   so_far = λ plain e stands. none_so_far g.R.Disk.may_leave c.args.book.now c.args.clock e c.requires.up stands;
@@ -57,6 +58,7 @@ loop-made-preserved g c =
     record {
       up = answer.grew.up;
       rules = answer.grew.rules ∙ inv.rules;
+      held = answer.grew.held ∙ inv.held;
       count = at.ensures.cause ∙ inv.count;
       kind = kind_then g.R.Disk.told g.R.Disk.honest g.R.Disk.order g.R.Disk.orders c.args.book.now.rig c.loop-made.book.rig c.work.new.self.rig inv.kind at.ensures.kind;
       so_far = λ plain e stands.

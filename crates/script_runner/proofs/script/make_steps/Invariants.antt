@@ -9,6 +9,7 @@ abbrev pub invariant-loop-made : goal.invariant-loop-made
 invariant-loop-made g l = record {
   up : l.book.down ≡ false;
   rules : l.book.rules ≡ l.fn.book.rules;
+  held : l.book.held ≡ l.fn.book.held;
   count : g.R.Disk.faults l.book.rig ≡ g.R.Disk.faults l.fn.book.rig;
   kind : SameKind g.R.Disk.told g.R.Disk.honest g.R.Disk.order g.R.Disk.orders l.fn.book.rig l.book.rig;
   so_far : Plain (g.R.Disk.told l.fn.book.rig) (g.R.Disk.honest l.fn.book.rig) → (e : Payloads)

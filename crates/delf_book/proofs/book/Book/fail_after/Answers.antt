@@ -40,4 +40,5 @@ invariant_of-self g c =
           subst (λ (a : Areas). KeepsPayloads l.rules l.history e c.self.inside.down a (g.R.Disk.seen c.self.inside.opened.value)) (sym (r.seen here)) (c.self.invariant.3 here),
       opening_told c.self.invariant.4 r.telling r.count,
       c.self.invariant.5,
+      λ plain. c.self.invariant.6 (told_plain r.telling plain),
     )

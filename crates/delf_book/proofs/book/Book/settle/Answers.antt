@@ -1,4 +1,4 @@
-use Rattle.std.proofs.Common.{vec_capacity, refl, sym, subst}
+use Rattle.std.proofs.Common.{vec_len, vec_capacity, refl, sym, subst}
 use Rattle.delf_disk.specs.Plain.{Plain}
 use Rattle.delf_disk.proofs.Flags.{was_plain}
 use Rattle.delf_model.specs.Step.{after}
@@ -11,6 +11,7 @@ use Rattle.delf_book.proofs.Payloads.{rests_with, keeps_still, keeps_fallen, ope
 use Rattle.delf_book.proofs.Plainly.{keeps_same, room_lists}
 use Rattle.delf_book.proofs.Sizes.{journal_in, vault_in}
 use Rattle.delf_book.proofs.Callings.{settle_safe}
+use Rattle.delf_book.specs.Claims.{room_for}
 use Rattle.delf_book.proofs.book.Book.settle.Goals as goal
 
 pub settle_areas-requires-clause-journal_stands : goal.settle_areas-requires-clause-journal_stands
@@ -29,7 +30,7 @@ settle_areas-requires-clause-vault_stands g c = λ plain.
 
 pub returns-in-Ok-clause-crash : goal.returns-in-Ok-clause-crash
 returns-in-Ok-clause-crash g c = λ plain up e rests.
-    let view : Booked g.row.G.Denot g.row.R.Denot = (record { rules = c.self.inside.ledger.rules; history = c.self.inside.ledger.history; payloads = payloads_in (after c.self.inside.ledger.rules c.self.inside.ledger.history) (g.R.Disk.seen c.self.inside.rested.value); store = c.self.inside.ledger.store; spare = c.self.inside.spare; down = c.self.inside.down; beside = c.self.inside.beside; rig = c.self.inside.rig; opened = c.self.inside.opened.value }) in
+    let view : Booked g.row.G.Denot g.row.R.Denot = (record { rules = c.self.inside.ledger.rules; history = c.self.inside.ledger.history; payloads = payloads_in (after c.self.inside.ledger.rules c.self.inside.ledger.history) (g.R.Disk.seen c.self.inside.rested.value); store = c.self.inside.ledger.store; held = c.self.inside.claims.items; spare = c.self.inside.spare; down = c.self.inside.down; beside = c.self.inside.beside; rig = c.self.inside.rig; opened = c.self.inside.opened.value }) in
     let here : Plain (g.R.Disk.told c.self.inside.rig) (g.R.Disk.honest c.self.inside.rig) =
     subst (λ (b : Booked g.row.G.Denot g.row.R.Denot). Plain (g.R.Disk.told b.rig) (g.R.Disk.honest b.rig)) (sym c.self.view_is) plain in
     settle_safe view c.args.self.now c.self.view_is c.settle_areas.new.disk g.R.Disk.moment g.R.Disk.may_leave g.R.Disk.left_since
@@ -37,7 +38,7 @@ returns-in-Ok-clause-crash g c = λ plain up e rests.
 
 pub returns-in-Err-clause-crash : goal.returns-in-Err-clause-crash
 returns-in-Err-clause-crash g c = λ plain up e rests.
-    let view : Booked g.row.G.Denot g.row.R.Denot = (record { rules = c.self.inside.ledger.rules; history = c.self.inside.ledger.history; payloads = payloads_in (after c.self.inside.ledger.rules c.self.inside.ledger.history) (g.R.Disk.seen c.self.inside.rested.value); store = c.self.inside.ledger.store; spare = c.self.inside.spare; down = c.self.inside.down; beside = c.self.inside.beside; rig = c.self.inside.rig; opened = c.self.inside.opened.value }) in
+    let view : Booked g.row.G.Denot g.row.R.Denot = (record { rules = c.self.inside.ledger.rules; history = c.self.inside.ledger.history; payloads = payloads_in (after c.self.inside.ledger.rules c.self.inside.ledger.history) (g.R.Disk.seen c.self.inside.rested.value); store = c.self.inside.ledger.store; held = c.self.inside.claims.items; spare = c.self.inside.spare; down = c.self.inside.down; beside = c.self.inside.beside; rig = c.self.inside.rig; opened = c.self.inside.opened.value }) in
     let here : Plain (g.R.Disk.told c.self.inside.rig) (g.R.Disk.honest c.self.inside.rig) =
     subst (λ (b : Booked g.row.G.Denot g.row.R.Denot). Plain (g.R.Disk.told b.rig) (g.R.Disk.honest b.rig)) (sym c.self.view_is) plain in
     settle_safe view c.args.self.now c.self.view_is c.settle_areas.new.disk g.R.Disk.moment g.R.Disk.may_leave g.R.Disk.left_since
@@ -59,10 +60,10 @@ invariant_of-self g c = (
       let r = c.settle_areas.ensures in
       let old = c.self.inside.logs in
       let new = c.settle_areas.new.logs in
-      let base = keeps_same l.rules l.rules l.history l.history c.self.inside.spare l.spare l.spare
+      let base = keeps_same l.rules l.rules l.history l.history (room_for c.self.inside.spare (vec_len c.self.inside.claims)) l.spare l.spare
       old.journal old.vault new.journal new.vault old.carriers.items new.carriers.items (vec_capacity old.carriers) (vec_capacity new.carriers) _ _ _ _ refl refl
       r.journal_area r.journal_sizes r.vault_area r.vault_sizes r.items
-      (room_lists c.self.inside.spare l.spare old.journal old.vault new.journal new.vault old.carriers.items new.carriers.items (vec_capacity old.carriers) (vec_capacity new.carriers) r.journal_spare r.vault_spare r.items r.capacity) (c.self.invariant.0 c.if-self.false) in
+      (room_lists (room_for c.self.inside.spare (vec_len c.self.inside.claims)) l.spare old.journal old.vault new.journal new.vault old.carriers.items new.carriers.items (vec_capacity old.carriers) (vec_capacity new.carriers) r.journal_spare r.vault_spare r.items r.capacity) (c.self.invariant.0 c.if-self.false) in
       record {
         logs = base.logs;
         carried = base.carried;
@@ -89,6 +90,7 @@ invariant_of-self g c = (
       ((c.settle_areas.ensures.crash here l.rules l.history e ((c.self.invariant.0 c.if-self.false).areas here).rests).now now (g.met.R.Disk.reads_as_image c.settle_areas.new.disk plain)).1,
   opening_still c.self.invariant.4 c.settle_areas.ensures.kind c.in-Ok.ensures.cause.stays,
   c.self.invariant.5,
+  λ plain. c.self.invariant.6 (was_plain c.settle_areas.ensures.kind plain),
 )
 
 pub invariant_of-self-in-Err : goal.invariant_of-self-in-Err
@@ -109,4 +111,5 @@ invariant_of-self-in-Err g c = (
       (g.R.Disk.seen c.settle_areas.new.disk) (g.R.Disk.seen c.self.inside.opened.value) (c.self.invariant.3 (was_plain c.settle_areas.ensures.kind plain)),
   opening_fell c.self.invariant.4 c.settle_areas.ensures.kind c.in-Err.ensures.cause.later c.in-Err.ensures.cause.failed,
   c.self.invariant.5,
+  λ plain. c.self.invariant.6 (was_plain c.settle_areas.ensures.kind plain),
 )

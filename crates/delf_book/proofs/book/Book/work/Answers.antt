@@ -1,4 +1,4 @@
-use Rattle.std.proofs.Common.{◌≡◌, ℕ, true, List, [], ◌∷◌, ◌++◌, max, min, Some, sym, ap, ◌∙◌, subst}
+use Rattle.std.proofs.Common.{◌≡◌, ℕ, true, List, [], ◌∷◌, ◌++◌, max, min, Some, refl, vec_capacity, arith, sym, ap, ◌∙◌, subst}
 use Rattle.std.specs.Prelude.{Err}
 use Rattle.delf_model.specs.declared.entry.Entry.{Entry}
 use Rattle.delf_model.specs.RuleSet.{RuleSet}
@@ -6,12 +6,13 @@ use Rattle.delf_book.specs.declared.stepping.Halt.{Halt}
 use Rattle.delf_book.proofs.Payloads.{rests_with, keeps_still, grew_by, keeps_longer, keeps_fallen, opening_still, opening_fell}
 use Rattle.delf_book.proofs.Plainly.{at_ledger}
 use Rattle.delf_book.proofs.Fallen.{fell_beside}
-use Rattle.delf_book.specs.Keeping.{KeepsDown, KeepsPayloads, payloads_in}
+use Rattle.delf_book.specs.Claims.{room_for}
+use Rattle.delf_book.specs.Keeping.{KeepsUp, KeepsDown, KeepsPayloads, payloads_in}
+use Rattle.delf_book.proofs.Claiming.{claims_same, claims_entered, read_same, read_entered, none_claimed}
 use Rattle.delf_disk.proofs.Flags.{was_plain, stays_plain}
 use Rattle.delf_disk.specs.Moments.{Leaves}
 use Rattle.delf_disk.specs.Plain.{Plain}
 use Rattle.delf_model.specs.declared.entry.What.{What}
-use Rattle.delf_model.specs.Order.{is_held}
 use Rattle.delf_model.specs.Room.{greatest_moment, moment_of}
 use Rattle.delf_model.specs.Step.{after}
 use Rattle.delf_model.specs.Payloads.{Payloads, payloads_after}
@@ -29,7 +30,7 @@ use Rattle.delf_book.proofs.book.Book.work.Goals as goal
 
 pub returns-in-Ok-clause-crash : goal.returns-in-Ok-clause-crash
 returns-in-Ok-clause-crash g c = λ plain.
-    let view : Booked g.row.G.Denot g.row.R.Denot = (record { rules = c.self.inside.ledger.rules; history = c.self.inside.ledger.history; payloads = payloads_in (after c.self.inside.ledger.rules c.self.inside.ledger.history) (g.R.Disk.seen c.self.inside.rested.value); store = c.self.inside.ledger.store; spare = c.self.inside.spare; down = c.self.inside.down; beside = c.self.inside.beside; rig = c.self.inside.rig; opened = c.self.inside.opened.value }) in
+    let view : Booked g.row.G.Denot g.row.R.Denot = (record { rules = c.self.inside.ledger.rules; history = c.self.inside.ledger.history; payloads = payloads_in (after c.self.inside.ledger.rules c.self.inside.ledger.history) (g.R.Disk.seen c.self.inside.rested.value); store = c.self.inside.ledger.store; held = c.self.inside.claims.items; spare = c.self.inside.spare; down = c.self.inside.down; beside = c.self.inside.beside; rig = c.self.inside.rig; opened = c.self.inside.opened.value }) in
     let m_is : c.moment_at-moment.result ≡ moment_of (state_in view) c.args.now =
     c.moment_at-moment.ensures ∙ ap (λ (k : ℕ). max k (min c.args.now greatest_moment)) c.moment.ensures.value in
     let here : Plain (g.R.Disk.told c.self.inside.rig) (g.R.Disk.honest c.self.inside.rig) =
@@ -60,7 +61,7 @@ returns-in-Err-Damaged-clause-crash g c = λ plain.
 
 pub returns-in-Err-Failed-clause-crash : goal.returns-in-Err-Failed-clause-crash
 returns-in-Err-Failed-clause-crash g c = λ plain.
-    let view : Booked g.row.G.Denot g.row.R.Denot = (record { rules = c.self.inside.ledger.rules; history = c.self.inside.ledger.history; payloads = payloads_in (after c.self.inside.ledger.rules c.self.inside.ledger.history) (g.R.Disk.seen c.self.inside.rested.value); store = c.self.inside.ledger.store; spare = c.self.inside.spare; down = c.self.inside.down; beside = c.self.inside.beside; rig = c.self.inside.rig; opened = c.self.inside.opened.value }) in
+    let view : Booked g.row.G.Denot g.row.R.Denot = (record { rules = c.self.inside.ledger.rules; history = c.self.inside.ledger.history; payloads = payloads_in (after c.self.inside.ledger.rules c.self.inside.ledger.history) (g.R.Disk.seen c.self.inside.rested.value); store = c.self.inside.ledger.store; held = c.self.inside.claims.items; spare = c.self.inside.spare; down = c.self.inside.down; beside = c.self.inside.beside; rig = c.self.inside.rig; opened = c.self.inside.opened.value }) in
     let m_is : c.moment_at-moment.result ≡ moment_of (state_in view) c.args.now =
     c.moment_at-moment.ensures ∙ ap (λ (k : ℕ). max k (min c.args.now greatest_moment)) c.moment.ensures.value in
     let here : Plain (g.R.Disk.told c.self.inside.rig) (g.R.Disk.honest c.self.inside.rig) =
@@ -72,7 +73,7 @@ returns-in-Err-Failed-clause-crash g c = λ plain.
 
 pub returns-in-Ok-clause-seals : goal.returns-in-Ok-clause-seals
 returns-in-Ok-clause-seals g c = λ plain.
-    let view : Booked g.row.G.Denot g.row.R.Denot = (record { rules = c.self.inside.ledger.rules; history = c.self.inside.ledger.history; payloads = payloads_in (after c.self.inside.ledger.rules c.self.inside.ledger.history) (g.R.Disk.seen c.self.inside.rested.value); store = c.self.inside.ledger.store; spare = c.self.inside.spare; down = c.self.inside.down; beside = c.self.inside.beside; rig = c.self.inside.rig; opened = c.self.inside.opened.value }) in
+    let view : Booked g.row.G.Denot g.row.R.Denot = (record { rules = c.self.inside.ledger.rules; history = c.self.inside.ledger.history; payloads = payloads_in (after c.self.inside.ledger.rules c.self.inside.ledger.history) (g.R.Disk.seen c.self.inside.rested.value); store = c.self.inside.ledger.store; held = c.self.inside.claims.items; spare = c.self.inside.spare; down = c.self.inside.down; beside = c.self.inside.beside; rig = c.self.inside.rig; opened = c.self.inside.opened.value }) in
     let m_is : c.moment_at-moment.result ≡ moment_of (state_in view) c.args.now =
     c.moment_at-moment.ensures ∙ ap (λ (k : ℕ). max k (min c.args.now greatest_moment)) c.moment.ensures.value in
     let here : Plain (g.R.Disk.told c.self.inside.rig) (g.R.Disk.honest c.self.inside.rig) =
@@ -85,7 +86,7 @@ returns-in-Ok-clause-seals g c = λ plain.
 
 pub returns-in-Err-Failed-clause-seals : goal.returns-in-Err-Failed-clause-seals
 returns-in-Err-Failed-clause-seals g c = λ plain.
-    let view : Booked g.row.G.Denot g.row.R.Denot = (record { rules = c.self.inside.ledger.rules; history = c.self.inside.ledger.history; payloads = payloads_in (after c.self.inside.ledger.rules c.self.inside.ledger.history) (g.R.Disk.seen c.self.inside.rested.value); store = c.self.inside.ledger.store; spare = c.self.inside.spare; down = c.self.inside.down; beside = c.self.inside.beside; rig = c.self.inside.rig; opened = c.self.inside.opened.value }) in
+    let view : Booked g.row.G.Denot g.row.R.Denot = (record { rules = c.self.inside.ledger.rules; history = c.self.inside.ledger.history; payloads = payloads_in (after c.self.inside.ledger.rules c.self.inside.ledger.history) (g.R.Disk.seen c.self.inside.rested.value); store = c.self.inside.ledger.store; held = c.self.inside.claims.items; spare = c.self.inside.spare; down = c.self.inside.down; beside = c.self.inside.beside; rig = c.self.inside.rig; opened = c.self.inside.opened.value }) in
     let m_is : c.moment_at-moment.result ≡ moment_of (state_in view) c.args.now =
     c.moment_at-moment.ensures ∙ ap (λ (k : ℕ). max k (min c.args.now greatest_moment)) c.moment.ensures.value in
     let here : Plain (g.R.Disk.told c.self.inside.rig) (g.R.Disk.honest c.self.inside.rig) =
@@ -114,7 +115,7 @@ returns-in-Err-Damaged-clause-seals g c = λ plain.
 
 pub returns-in-Ok-clause-payloads : goal.returns-in-Ok-clause-payloads
 returns-in-Ok-clause-payloads g c = λ plain.
-    let view : Booked g.row.G.Denot g.row.R.Denot = (record { rules = c.self.inside.ledger.rules; history = c.self.inside.ledger.history; payloads = payloads_in (after c.self.inside.ledger.rules c.self.inside.ledger.history) (g.R.Disk.seen c.self.inside.rested.value); store = c.self.inside.ledger.store; spare = c.self.inside.spare; down = c.self.inside.down; beside = c.self.inside.beside; rig = c.self.inside.rig; opened = c.self.inside.opened.value }) in
+    let view : Booked g.row.G.Denot g.row.R.Denot = (record { rules = c.self.inside.ledger.rules; history = c.self.inside.ledger.history; payloads = payloads_in (after c.self.inside.ledger.rules c.self.inside.ledger.history) (g.R.Disk.seen c.self.inside.rested.value); store = c.self.inside.ledger.store; held = c.self.inside.claims.items; spare = c.self.inside.spare; down = c.self.inside.down; beside = c.self.inside.beside; rig = c.self.inside.rig; opened = c.self.inside.opened.value }) in
     let m_is : c.moment_at-moment.result ≡ moment_of (state_in view) c.args.now =
     c.moment_at-moment.ensures ∙ ap (λ (k : ℕ). max k (min c.args.now greatest_moment)) c.moment.ensures.value in
     let here : Plain (g.R.Disk.told c.self.inside.rig) (g.R.Disk.honest c.self.inside.rig) =
@@ -140,37 +141,59 @@ returns-in-Ok-clause-payloads g c = λ plain.
     (durable (payloads_in (after l.rules l.history) (g.R.Disk.seen c.self.inside.rig)) areas.rests))))
 
 pub invariant_of-self : goal.invariant_of-self
-invariant_of-self g c = (
-  λ up. c.in-Ok.ensures.up,
-  λ up. c.self.invariant.1 c.if-self.false,
-  λ down plain. absurd (cc (down, c.if-self.false)),
-  λ next.
-      let here = was_plain c.step.ensures.kind next in
-      let l = c.self.inside.ledger in
-      let now = c.step.new.ledger in
-      let areas = (c.self.invariant.0 c.if-self.false).areas here in
-      let durable = c.in-Ok.ensures.durable here in
-      let e = payloads_in (after l.rules l.history) (g.R.Disk.seen c.self.inside.rested.value) in
-      let entry : Entry = step_entry c.moment_at-moment.result c.in-Some.what in
-      let longer : List Entry = l.history ++ entry ∷ [] in
-      let line = first_line (after l.rules l.history) c.moment_at-moment.result c.in-Some.what c.in-Some.ensures.legal c.in-Some.ensures.step in
-      at_ledger (λ (r : RuleSet) (h : List Entry). KeepsPayloads r h (payloads_in (after r h) (g.R.Disk.seen c.of-rested.result.value)) c.self.inside.down (g.R.Disk.seen c.step.new.disk) (g.R.Disk.seen c.self.inside.opened.value))
-      l.rules now.rules longer now.history c.in-Ok.ensures.ok.rules c.in-Ok.ensures.ok.history
-      (subst (λ (x : g.row.R.Denot). KeepsPayloads l.rules longer (payloads_in (after l.rules longer) (g.R.Disk.seen x)) c.self.inside.down (g.R.Disk.seen c.step.new.disk) (g.R.Disk.seen c.self.inside.opened.value)) (sym c.of-rested.ensures)
-      (keeps_longer l.rules l.history e c.self.inside.down (g.R.Disk.seen c.self.inside.rig) (g.R.Disk.seen c.self.inside.opened.value) c.if-self.false (c.self.invariant.3 here) entry []
-      (g.R.Disk.seen c.step.new.disk) (g.R.Disk.may_leave c.self.inside.rig) (g.R.Disk.may_leave c.step.new.disk) c.len-len.ensures.legal line
-      (g.met.R.Disk.reads_as_image c.self.inside.rig here) (g.met.R.Disk.reads_as_image c.step.new.disk next) areas.rests
-      (durable (payloads_in (after l.rules l.history) (g.R.Disk.seen c.self.inside.rig)) areas.rests))),
-  opening_still c.self.invariant.4 c.step.ensures.kind c.in-Ok.ensures.cause,
-  c.step.ensures.held ∙ c.self.invariant.5,
-)
+invariant_of-self g c =
+    let l = c.self.inside.ledger in
+    let now = c.step.new.ledger in
+    let entry : Entry = step_entry c.moment_at-moment.result c.in-Some.what in
+    let line = first_line (after l.rules l.history) c.moment_at-moment.result c.in-Some.what c.in-Some.ensures.legal c.in-Some.ensures.step in
+    let free = none_claimed l.rules l.history l.held c.self.inside.spare c.self.inside.claims.items (vec_capacity c.self.inside.claims) c.in-Some.what c.self.invariant.5
+    (ap (λ (b : Booked g.row.G.Denot g.row.R.Denot). b.held) c.self.view_is ∙ c.requires) in (
+      λ up. rw (← c.len-claims.ensures) c.in-Ok.ensures.up,
+      λ up. c.self.invariant.1 c.if-self.false,
+      λ down plain. absurd (cc (down, c.if-self.false)),
+      λ next.
+          let here = was_plain c.step.ensures.kind next in
+          let l = c.self.inside.ledger in
+          let now = c.step.new.ledger in
+          let areas = (c.self.invariant.0 c.if-self.false).areas here in
+          let durable = c.in-Ok.ensures.durable here in
+          let e = payloads_in (after l.rules l.history) (g.R.Disk.seen c.self.inside.rested.value) in
+          let entry : Entry = step_entry c.moment_at-moment.result c.in-Some.what in
+          let longer : List Entry = l.history ++ entry ∷ [] in
+          let line = first_line (after l.rules l.history) c.moment_at-moment.result c.in-Some.what c.in-Some.ensures.legal c.in-Some.ensures.step in
+          at_ledger (λ (r : RuleSet) (h : List Entry). KeepsPayloads r h (payloads_in (after r h) (g.R.Disk.seen c.of-rested.result.value)) c.self.inside.down (g.R.Disk.seen c.step.new.disk) (g.R.Disk.seen c.self.inside.opened.value))
+          l.rules now.rules longer now.history c.in-Ok.ensures.ok.rules c.in-Ok.ensures.ok.history
+          (subst (λ (x : g.row.R.Denot). KeepsPayloads l.rules longer (payloads_in (after l.rules longer) (g.R.Disk.seen x)) c.self.inside.down (g.R.Disk.seen c.step.new.disk) (g.R.Disk.seen c.self.inside.opened.value)) (sym c.of-rested.ensures)
+          (keeps_longer l.rules l.history e c.self.inside.down (g.R.Disk.seen c.self.inside.rig) (g.R.Disk.seen c.self.inside.opened.value) c.if-self.false (c.self.invariant.3 here) entry []
+          (g.R.Disk.seen c.step.new.disk) (g.R.Disk.may_leave c.self.inside.rig) (g.R.Disk.may_leave c.step.new.disk) c.len-len.ensures.legal line
+          (g.met.R.Disk.reads_as_image c.self.inside.rig here) (g.met.R.Disk.reads_as_image c.step.new.disk next) areas.rests
+          (durable (payloads_in (after l.rules l.history) (g.R.Disk.seen c.self.inside.rig)) areas.rests))),
+      opening_still c.self.invariant.4 c.step.ensures.kind c.in-Ok.ensures.cause,
+      claims_entered l.rules now.rules l.history now.history entry l.held now.held c.self.inside.spare c.in-Ok.left c.self.inside.claims.items (vec_capacity c.self.inside.claims) c.len-len.ensures.legal line free
+          c.held-held.ensures.are c.in-Ok.ensures.ok.rules c.in-Ok.ensures.ok.history c.step.ensures.held (let kept = c.self.invariant.5.room in omega (arith, kept, c.in-Ok.ensures.less)) c.self.invariant.5,
+      λ next.
+          let here = was_plain c.step.ensures.kind next in
+          let areas = (c.self.invariant.0 c.if-self.false).areas here in
+          let durable = c.in-Ok.ensures.durable here in
+          let e = payloads_in (after l.rules l.history) (g.R.Disk.seen c.self.inside.rested.value) in
+          let longer : List Entry = l.history ++ entry ∷ [] in
+          read_entered l.rules l.history entry [] l.held c.self.inside.spare c.self.inside.claims.items (vec_capacity c.self.inside.claims) e (payloads_in (after now.rules now.history) (g.R.Disk.seen c.of-rested.result.value))
+          c.len-len.ensures.legal line free c.held-held.ensures.are c.self.invariant.5
+          (at_ledger (λ (r : RuleSet) (h : List Entry). payloads_in (after r h) (g.R.Disk.seen c.of-rested.result.value) ≡ payloads_after digest (after l.rules l.history) entry [] e)
+          l.rules now.rules longer now.history c.in-Ok.ensures.ok.rules c.in-Ok.ensures.ok.history
+          (subst (λ (x : g.row.R.Denot). payloads_in (after l.rules longer) (g.R.Disk.seen x) ≡ payloads_after digest (after l.rules l.history) entry [] e) (sym c.of-rested.ensures)
+          (grew_by l.rules l.history e c.self.inside.down (g.R.Disk.seen c.self.inside.rig) (g.R.Disk.seen c.self.inside.opened.value) c.if-self.false (c.self.invariant.3 here) entry []
+          (g.R.Disk.seen c.step.new.disk) (g.R.Disk.may_leave c.self.inside.rig) (g.R.Disk.may_leave c.step.new.disk) c.len-len.ensures.legal line
+          (g.met.R.Disk.reads_as_image c.self.inside.rig here) (g.met.R.Disk.reads_as_image c.step.new.disk next) areas.rests
+          (durable (payloads_in (after l.rules l.history) (g.R.Disk.seen c.self.inside.rig)) areas.rests)))) (c.self.invariant.6 here),
+    )
 
 pub invariant_of-self-in-Err-OutOfMemory : goal.invariant_of-self-in-Err-OutOfMemory
 invariant_of-self-in-Err-OutOfMemory g c =
     let l = c.self.inside.ledger in
     let now = c.step.new.ledger in
     let disk : c.step.new.disk ≡ c.self.inside.rig = starved_is _ c.in-Err-OutOfMemory.field-0 c.in-Err-OutOfMemory.field-0-is c.in-Err-OutOfMemory.ensures.unread in (
-      λ up. waits_starved _ c.in-Err-OutOfMemory.field-0 c.in-Err-OutOfMemory.field-0-is c.in-Err-OutOfMemory.ensures.stays,
+      λ up. waits_starved _ c.in-Err-OutOfMemory.field-0 c.in-Err-OutOfMemory.field-0-is (rw (← c.len-claims.ensures) c.in-Err-OutOfMemory.ensures.stays),
       λ up. c.self.invariant.1 c.if-self.false,
       λ down plain. absurd (cc (down, c.if-self.false)),
       λ plain.
@@ -179,7 +202,10 @@ invariant_of-self-in-Err-OutOfMemory g c =
           (subst (λ (x : g.row.R.Denot). KeepsPayloads l.rules l.history (payloads_in (after l.rules l.history) (g.R.Disk.seen c.self.inside.rested.value)) c.self.inside.down (g.R.Disk.seen x) (g.R.Disk.seen c.self.inside.opened.value)) (sym disk)
           (c.self.invariant.3 (was_plain c.step.ensures.kind plain))),
       opening_still c.self.invariant.4 c.step.ensures.kind (ap g.R.Disk.faults disk),
-      c.step.ensures.held ∙ c.self.invariant.5,
+      claims_same l.rules now.rules l.history now.history l.held now.held c.self.inside.spare c.self.inside.spare c.self.inside.claims.items c.self.inside.claims.items (vec_capacity c.self.inside.claims) (vec_capacity c.self.inside.claims)
+          c.step.ensures.rules c.in-Err-OutOfMemory.ensures.err c.step.ensures.held refl c.self.invariant.5.room c.self.invariant.5,
+      λ plain. read_same l.rules now.rules l.history now.history c.self.inside.claims.items c.self.inside.claims.items (g.R.Disk.seen c.self.inside.rested.value)
+          c.step.ensures.rules c.in-Err-OutOfMemory.ensures.err refl (c.self.invariant.6 (was_plain c.step.ensures.kind plain)),
     )
 
 pub invariant_of-self-in-Err-Damaged : goal.invariant_of-self-in-Err-Damaged
@@ -187,7 +213,7 @@ invariant_of-self-in-Err-Damaged g c =
     let l = c.self.inside.ledger in
     let now = c.step.new.ledger in
     let cause = subst (λ (f : Halt). CountsHalt {T = ℕ} (g.R.Disk.faults c.self.inside.rig) (g.R.Disk.faults c.step.new.disk) (Err f)) c.in-Err-Damaged.field-0-is c.in-Err-Damaged.ensures.cause in (
-      λ up. waits_hurt _ c.in-Err-Damaged.field-0 c.in-Err-Damaged.item c.in-Err-Damaged.stored c.in-Err-Damaged.found c.in-Err-Damaged.field-0-is c.in-Err-Damaged.ensures.stays,
+      λ up. waits_hurt _ c.in-Err-Damaged.field-0 c.in-Err-Damaged.item c.in-Err-Damaged.stored c.in-Err-Damaged.found c.in-Err-Damaged.field-0-is (rw (← c.len-claims.ensures) c.in-Err-Damaged.ensures.stays),
       λ up. c.self.invariant.1 c.if-self.false,
       λ down plain. absurd (cc (down, c.if-self.false)),
       λ plain.
@@ -202,7 +228,10 @@ invariant_of-self-in-Err-Damaged g c =
           (keeps_still l.rules l.history (payloads_in (after l.rules l.history) (g.R.Disk.seen c.self.inside.rested.value)) c.self.inside.down (g.R.Disk.seen c.self.inside.rig) (g.R.Disk.seen c.self.inside.opened.value)
           c.if-self.false (c.self.invariant.3 here) (g.R.Disk.seen c.step.new.disk) (read.now (g.R.Disk.seen c.step.new.disk) (g.met.R.Disk.reads_as_image c.step.new.disk plain)).1),
       opening_still c.self.invariant.4 c.step.ensures.kind cause,
-      c.step.ensures.held ∙ c.self.invariant.5,
+      claims_same l.rules now.rules l.history now.history l.held now.held c.self.inside.spare c.self.inside.spare c.self.inside.claims.items c.self.inside.claims.items (vec_capacity c.self.inside.claims) (vec_capacity c.self.inside.claims)
+          c.step.ensures.rules c.in-Err-Damaged.ensures.err c.step.ensures.held refl c.self.invariant.5.room c.self.invariant.5,
+      λ plain. read_same l.rules now.rules l.history now.history c.self.inside.claims.items c.self.inside.claims.items (g.R.Disk.seen c.self.inside.rested.value)
+          c.step.ensures.rules c.in-Err-Damaged.ensures.err refl (c.self.invariant.6 (was_plain c.step.ensures.kind plain)),
     )
 
 pub invariant_of-self-in-Err-Failed : goal.invariant_of-self-in-Err-Failed
@@ -227,8 +256,21 @@ invariant_of-self-in-Err-Failed g c =
           (keeps_fallen l.rules l.history e c.self.inside.down (g.R.Disk.seen c.self.inside.rig) (g.R.Disk.seen c.step.new.disk) (g.R.Disk.seen c.self.inside.opened.value)
           (c.self.invariant.3 (was_plain c.step.ensures.kind plain))),
       opening_fell c.self.invariant.4 c.step.ensures.kind cause.0 cause.1,
-      c.step.ensures.held ∙ c.self.invariant.5,
+      claims_same l.rules now.rules l.history now.history l.held now.held c.self.inside.spare c.self.inside.spare c.self.inside.claims.items c.self.inside.claims.items (vec_capacity c.self.inside.claims) (vec_capacity c.self.inside.claims)
+          c.step.ensures.rules c.in-Err-Failed.ensures.err c.step.ensures.held refl c.self.invariant.5.room c.self.invariant.5,
+      λ plain. read_same l.rules now.rules l.history now.history c.self.inside.claims.items c.self.inside.claims.items (g.R.Disk.seen c.self.inside.rested.value)
+          c.step.ensures.rules c.in-Err-Failed.ensures.err refl (c.self.invariant.6 (was_plain c.step.ensures.kind plain)),
     )
 
 pub step-requires-clause-free : goal.step-requires-clause-free
-step-requires-clause-free g c = ap (λ (held : List What). is_held held c.in-Some.what) c.self.invariant.5
+step-requires-clause-free g c =
+    let l = c.self.inside.ledger in
+    none_claimed l.rules l.history l.held c.self.inside.spare c.self.inside.claims.items (vec_capacity c.self.inside.claims) c.in-Some.what c.self.invariant.5
+    (ap (λ (b : Booked g.row.G.Denot g.row.R.Denot). b.held) c.self.view_is ∙ c.requires)
+
+pub step-requires-clause-up : goal.step-requires-clause-up
+step-requires-clause-up g c =
+    let l = c.self.inside.ledger in
+    let logs = c.self.inside.logs in
+    subst (λ (n : ℕ). KeepsUp l.rules l.history (room_for c.self.inside.spare n) l.spare logs.journal logs.vault logs.carriers.items (vec_capacity logs.carriers) (g.R.Disk.told c.self.inside.rig)
+    (g.R.Disk.honest c.self.inside.rig) (g.R.Disk.seen c.self.inside.rig) (g.R.Disk.may_leave c.self.inside.rig)) (sym c.len-claims.ensures) (c.self.invariant.0 c.if-self.false)

@@ -1,4 +1,4 @@
-use Rattle.std.proofs.Common.{rules, refl, sym, subst, arith}
+use Rattle.std.proofs.Common.{rules, refl, vec_capacity, sym, subst, arith}
 use Rattle.std.proofs.lemmas.Bool.{false≢true}
 use Rattle.std.proofs.lemmas.Grind.{common_steps}
 use Rattle.std.specs.Prelude.{false}
@@ -6,6 +6,7 @@ use Rattle.delf_disk.specs.Areas.{Areas}
 use Rattle.delf_model.specs.Step.{after}
 use Rattle.ledger.specs.Ledgers.{Ledgered}
 use Rattle.delf_book.specs.Keeping.{KeepsLogs, KeepsAreas, KeepsPayloads, KeepsOpening, payloads_in}
+use Rattle.delf_book.proofs.Claiming.{claims_none, read_none}
 use Rattle.delf_book.proofs.Payloads.{keeps_opened}
 use Rattle.delf_book.proofs.folds.Fold.into_book.Goals as goal
 
@@ -31,5 +32,6 @@ invariant_of-result g c =
         later = omega arith;
         rose = λ is. absurd (false≢true is);
       }),
-      c.self.invariant.1,
+      claims_none l.rules l.history l.held c.self.inside.claims.items (vec_capacity c.self.inside.claims) c.self.invariant.1 c.self.invariant.2,
+      λ plain. read_none (payloads_in (after l.rules l.history) (seen c.of-rested.result.value)) c.self.inside.claims.items c.self.invariant.2,
     )

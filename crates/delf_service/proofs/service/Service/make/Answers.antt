@@ -3,7 +3,7 @@ use Rattle.seat_lock.specs.Locks.{view}
 use Rattle.delf_model.specs.declared.script.LaneCommand.{LaneCommand}
 use Rattle.delf_service.specs.declared.replies.LaneReply.TheVariants.{Submitted, Got}
 use Rattle.delf_service.specs.Lanes.{Makes, size_read}
-use Rattle.delf_service.proofs.Lanes.{submit_makes, ask_makes, ask_stops, read_is}
+use Rattle.delf_service.proofs.Lanes.{submit_makes, ask_makes, read_is}
 use Rattle.delf_service.proofs.service.Service.make.Goals as goal
 
 pub returns-after-is_ok-clause-made : goal.returns-after-is_ok-clause-made

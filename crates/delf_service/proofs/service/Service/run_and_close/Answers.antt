@@ -31,7 +31,7 @@ returns g c =
     c.args.now c.args.turns c.args.lanes.now (view c.args.root) c.open_rows.new.rows.items rows c.requires.starts.root_is c.run_opened.ensures.count c.open_rows.ensures.each c.run_opened.ensures.run in
     let seats = map (λ s. view s) c.part_rows.new.seats.items in
     let closed = at_moment first (λ m. standing_of g.R.Disk c.close-book.result m) (λ m. refl) (view c.args.root) (view c.open_rows.new.root) seats many c.args.now
-    c.requires.starts c.open_rows.ensures.root c.requires.moment c.close-book.ensures in
+    c.requires.starts c.open_rows.ensures.root c.requires.moment c.close-book.ensures.closed in
     ran_laneless first last c.args.now c.args.lanes.now c.truncate.new.self.items c.are_fed-fed.result refl
     (ran_all first (λ row. view row.seat) (λ row. IsOf c.args.self.lock row.seat) (λ row. row.replies.items) (λ row. row.starved)
     c.args.now c.args.lanes.now last (view c.args.root) (view c.open_rows.new.root) rows seats c.part_rows.new.outs.items c.truncate.new.self.items

@@ -1,5 +1,5 @@
 use denote.Param.{param}
-use denote.Param.Send.{IsSend, IsSync, param_send, arg_send, recorded_sync, struct_sync, shr_sync, shr_slice_sync, plain_sync}
+use denote.Param.Send.{param_send, arg_send, recorded_sync, struct_sync, shr_sync, shr_slice_sync, plain_sync}
 use denote.Exit.{no}
 use denote.RattleType.{RattleType}
 use denote.Struct.Declared.{shape}
