@@ -13,7 +13,7 @@ TABLE = [
     (27, "work 2 down at 6", (6, 7)), (28, "work 2 down at 6", (7, 7)),
 ]
 
-for pick in (0, 1, 2, 3, 255, 6148914691236517205, 2**64 - 1):
+for pick in (*range(256), 6148914691236517205, 2**64 - 1):
     for n in range(1, 29):
         document = SCHEMA + FOUR + b"fail %d\nwork 10\ncrash %d\nwork 10\njob 40\nshow\n" % (n, pick)
         agrees(f"fail {n}, crash {pick}", document)
@@ -23,7 +23,7 @@ for pick in (0, 1, 2, 3, 255, 6148914691236517205, 2**64 - 1):
         wanted = [first, f"opened {length}", f"work {7 - length} idle", "job 40 start 3 root 1 done erased 2 cut 1", "graph 0 0"]
         if lines != wanted or length not in lengths:
             wrong(f"fail {n}, crash {pick}: the table", lines, (first, lengths))
-ok("28 disk calls failed in turn, with 7 picks each")
+ok("28 disk calls failed in turn, with 258 picks each")
 
 # The same without `crash`: the status is 6, and the next run finishes it.
 for n in range(1, 29):
