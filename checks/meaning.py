@@ -244,8 +244,47 @@ def command_of(schema, number, words):
     raise Fault(number, "malformed")
 
 
+LANE_COMMANDS = (b"create", b"update", b"link", b"unlink", b"delete", b"restore", b"get")
+
+
+def block_head(number, words):
+    """Workers and turns, where this line begins a block."""
+    for form in ("par workers N turns N", "par quiet workers N turns N"):
+        values = fits(form, words)
+        if values is not None:
+            out_of_range(number, values[0], 0, 16)
+            out_of_range(number, values[1], 1, 1_000_000)
+            return values
+    return None
+
+
+def script_of(schema, kept, count):
+    """The commands of these lines, with each block as ("par", workers and turns, lanes)."""
+    commands, head, lanes = [], None, []
+    for number, line in kept:
+        words = words_of(line)
+        if head is None:
+            head = block_head(number, words)
+            if head is None:
+                commands.append(command_of(schema, number, words))
+        elif words == [b"lane"]:
+            if len(lanes) == 16:
+                raise Fault(number, "out of range")
+            lanes.append([])
+        elif lanes and words == [b"end"]:
+            commands.append(("par", head, lanes))
+            head, lanes = None, []
+        elif lanes and words is not None and words[0] in LANE_COMMANDS:
+            lanes[-1].append(command_of(schema, number, words))
+        else:
+            raise Fault(number, "malformed")
+    if head is not None:
+        raise Fault(count + 1, "malformed")
+    return commands
+
+
 def read_document(document):
-    """Schema and commands, or Fault. Blocks are not served."""
+    """Schema and commands, or Fault. What a block leads to is not told here."""
     if len(document) > 16_777_216:
         raise Fault(0, "document too long")
     kept, count = lines_of(document)
@@ -270,7 +309,7 @@ def read_document(document):
             break
         schema_line(schema, number, words)
     check(schema)
-    return schema, [command_of(schema, number, words_of(line)) for number, line in kept[place:]]
+    return schema, script_of(schema, kept[place:], count)
 
 
 # ---- the state after a history
@@ -715,6 +754,8 @@ class Run:
 
     def make(self, command):
         word, form, values = command
+        if word == "par":
+            raise NotImplementedError("what a block leads to depends on its threads")
         state = self.state
         if word == "create":
             payload = values[2] if len(values) > 2 else b""

@@ -3,9 +3,12 @@
 
 use delf_disk::FileDisk;
 use delf_io::{Bytes, ListClock, MemSink, MemSource, Numbers};
-use script_runner::run_plain;
+use delf_service::OpenGate;
+use script_runner::run;
 use std::fs::File;
 use std::rt::Files;
+use std::sync::Wait;
+use std::thread::Threads;
 use std::{fs, io};
 
 // The program's words, the document that it reads, what it prints of it, and the folder of its store.
@@ -18,7 +21,7 @@ struct Example {
 
 const RUN: &[&str] = &["run", "--at", "0"];
 
-const EXAMPLES: [Example; 10] = [
+const EXAMPLES: [Example; 11] = [
     Example {
         words: RUN,
         document: "first.document",
@@ -69,6 +72,12 @@ const EXAMPLES: [Example; 10] = [
         store: "expiry",
     },
     Example {
+        words: RUN,
+        document: "block.document",
+        output: "block.output",
+        store: "block",
+    },
+    Example {
         words: &["check"],
         document: "no_route.document",
         output: "no_route.checked",
@@ -83,7 +92,7 @@ const EXAMPLES: [Example; 10] = [
 ];
 
 // What the program prints of an example.
-fn printed<R: Files<File = File> + AllocGlobal + Sync>(
+fn printed<R: Files<File = File> + AllocGlobal + Threads + Wait + Sync>(
     rt: &R,
     example: &Example,
 ) -> io::Result<MemSink> {
@@ -101,19 +110,21 @@ fn printed<R: Files<File = File> + AllocGlobal + Sync>(
     let mut clock = ListClock::of(Numbers::of(alloc, &[])?);
     fs::create_dir_all(rt, example.store)?;
     let disk = FileDisk::at(rt, alloc, example.store)?;
-    let (_status, _disk) = run_plain(
+    let (_status, _disk) = run(
+        rt,
         alloc,
         words.as_slice(),
         &mut source,
         &mut sink,
         disk,
         &mut clock,
+        &OpenGate,
     );
     Ok(sink)
 }
 
 // Whether the example prints what is written beside it.
-fn is_written<R: Files<File = File> + AllocGlobal + Sync>(
+fn is_written<R: Files<File = File> + AllocGlobal + Threads + Wait + Sync>(
     rt: &R,
     example: &Example,
 ) -> io::Result<bool> {

@@ -10,7 +10,9 @@ ghost use Rattle.delf_model.specs.Legal.{Legal};
 ghost use Rattle.delf_model.specs.Sound.{Sound};
 ghost use Rattle.job_report.specs.Texts.{opened_text};
 ghost use Rattle.delf_model.specs.Payloads.{Payloads};
-ghost use Rattle.script_runner.specs.Blocks.{IsRunner};
+ghost use denote.Param.Send.{IsSend, IsSync};
+ghost use Rattle.delf_service.specs.Standings.{standing_of};
+ghost use Rattle.script_runner.specs.Blocks.{IsRunner, MayRun, RunsTo};
 ghost use Rattle.script_runner.specs.Complete.{IsQuiet, IsStore, EndsWell};
 ghost use Rattle.script_runner.specs.Endings.{UnopenedText, UnopenedCause, DownText, DownCause, EndText, EndCause};
 ghost use Rattle.script_runner.specs.LoadEnds.{LoadText};
@@ -23,7 +25,7 @@ ghost use Rattle.script_runner.specs.Faults.{FaultText, FaultCause};
 ghost use Rattle.script_runner.specs.Standing.{Falls, Carries};
 ghost use Rattle.script_runner.specs.Worlds.{StandsOn, world_of};
 
-use crate::blocks::{Blocks, NoBlocks, Outs};
+use crate::blocks::{Blocks, NoBlocks, Outs, RunBy};
 use crate::check::check_source;
 use crate::graph::ProgramBook;
 use crate::lanes::serve;
@@ -33,8 +35,9 @@ use crate::store::{Store, crash};
 use delf_book::BookFault;
 use delf_disk::{Area, Rig};
 use delf_io::{Clock, Sink, Source};
-use delf_model::{Bytes, Command, GREATEST_MOMENT, Moment, Schema};
+use delf_model::{Bytes, Command, GREATEST_MOMENT, Lane, Moment, Schema};
 use delf_recovery::OpenFault;
+use delf_service::{Gate, run_lanes};
 use documents::{
     Document, READ_LIMIT, ReadError, Request, Start, put_all, read_at_most, read_document,
     read_words,
@@ -42,6 +45,8 @@ use documents::{
 use job_report::{bad_journal_line, bad_vault_line, down_line, fault_line, opened_line};
 use script_lang::DocumentFault;
 use std::alloc::{AllocError, Global};
+use std::sync::Wait;
+use std::thread::Threads;
 
 /// Runs the program with these words. `run` reads a document from `source`, opens the store on `rig`, makes the commands, and
 /// puts their lines to `sink`; the moment of the start is the one that the words give, or the clock's answer, which is asked
@@ -86,6 +91,85 @@ pub fn run_plain<S: Source, K: Sink, R: Rig, C: Clock>(
     ensures asked { Asks (request_of (map string_bytes words.now)) result.0 (C.times_asked clock.old) (C.times_asked clock.new) }
 {
     run_words(alloc, &NoBlocks, words, source, sink, rig, clock)
+}
+
+/// The same, where scripts may have blocks of lanes, which run on threads, a lane each, and tell the gate of their entries. A
+/// load makes its script's block so. It may wait.
+pub fn run<W: Threads + Wait + Sync, S: Source, K: Sink, R: Rig + Send, C: Clock, Q: Gate + Sync>(
+    rt: &W,
+    alloc: Global,
+    words: &[String],
+    source: &mut S,
+    sink: &mut K,
+    rig: R,
+    clock: &mut C,
+    gate: &Q,
+) -> (Status, R)
+    // Why it ended so, and what it put and left on the disk.
+    ensures cause { RunCause true (request_of (map string_bytes words.now)) (S.told source.old) (S.left source.old)
+        (Rose (S.faults source.old) (S.faults source.new)) (Rose (K.faults sink.old) (K.faults sink.new)) (DiskRose (R.Disk.faults rig) (R.Disk.faults result.1))
+        (λ rules area at. Plain (R.Disk.told rig) (R.Disk.honest rig) → IsBad rules (R.Disk.seen rig) area at) result.0 }
+    ensures complete { IsQuiet (Rose (S.faults source.old) (S.faults source.new)) (Rose (K.faults sink.old) (K.faults sink.new)) (DiskRose (R.Disk.faults rig) (R.Disk.faults result.1))
+        → EndsWell true (request_of (map string_bytes words.now)) (S.told source.old) (S.left source.old)
+        (λ rules. Plain (R.Disk.told rig) (R.Disk.honest rig) × IsStore rules (R.Disk.seen rig)) result.0 }
+    ensures text { IsTrue (K.told sink.old) → RunText true (request_of (map string_bytes words.now)) (C.last_answer clock.new)
+        (S.told source.old) (S.left source.old) (λ moment document status. Plain (R.Disk.told rig) (R.Disk.honest rig) → DocumentText document moment (R.Disk.seen rig) (R.Disk.may_leave rig)
+        (R.Disk.faults rig) (R.Disk.faults result.1) (R.Disk.may_leave result.1) (K.held sink.old) (K.held sink.new) status)
+        (λ n moment document status. Plain (R.Disk.told rig) (R.Disk.honest rig) → LoadText n document moment (R.Disk.seen rig) (R.Disk.may_leave rig)
+        (R.Disk.faults rig) (R.Disk.faults result.1) (R.Disk.may_leave result.1) (K.held sink.old) (K.held sink.new) status)
+        (K.held sink.old) (K.held sink.new) result.0 }
+
+    // What it leaves.
+    ensures read { IsTrue (S.told source.old) → (read : List ℕ) × (length read ≤ 16777217)
+        × (S.left source.old ≡ read ++ S.left source.new) }
+    ensures whole { IsTrue (S.told source.old) → ReadsAllBy (request_of (map string_bytes words.now)) (S.left source.old) (S.left source.new) result.0 }
+    ensures unread { UnreadBy (request_of (map string_bytes words.now)) (source.new ≡ source.old) }
+    ensures same_source { S.told source.new ≡ S.told source.old }
+    ensures same_sink { K.told sink.new ≡ K.told sink.old }
+    ensures sink_faults { K.faults sink.old ≤ K.faults sink.new }
+    ensures telling { SameTelling R.Disk.told R.Disk.honest rig result.1 }
+    ensures rig_faults { R.Disk.faults rig ≤ R.Disk.faults result.1 }
+    ensures source_faults { S.faults source.old ≤ S.faults source.new }
+    ensures untouched { UntouchedBy (request_of (map string_bytes words.now)) (result.1 ≡ rig) result.0 }
+    ensures orders { OrdersBy true (request_of (map string_bytes words.now)) (S.told source.old) (S.left source.old) (R.Disk.order rig) (R.Disk.orders rig) (R.Disk.order result.1) (R.Disk.orders result.1) result.0 }
+    ensures asked { Asks (request_of (map string_bytes words.now)) result.0 (C.times_asked clock.old) (C.times_asked clock.new) }
+{
+    run_words(
+        alloc,
+        &RunBy {
+            rt,
+            alloc,
+            gate,
+            run: run_store::<W, R, Q>,
+        },
+        words,
+        source,
+        sink,
+        rig,
+        clock,
+    )
+}
+
+// Runs the lanes of a block over a store.
+fn run_store<W: Threads + Wait + Sync, R: Rig + Send, Q: Gate + Sync>(
+    rt: &W,
+    alloc: Global,
+    gate: &Q,
+    store: Store<R>,
+    lanes: &[Lane],
+    workers: u8,
+    turns: u32,
+) -> (Store<R>, Outs)
+    // A function that is handed on by name states what its bounds ask.
+    requires { IsSync W.row × IsSync Q.row × IsSend R.row × MayRun store.book.rules workers lanes.now }
+    ensures clock { result.0.clock ≡ store.clock }
+    ensures unclaimed { result.0.book.held ≡ [] }
+    ensures lanes { RunsTo (standing_of R.Disk store.book (Some store.clock))
+        (standing_of R.Disk result.0.book (Some store.clock)) store.clock lanes.now (λ v. v.items) result.1 }
+{
+    let Store { book, clock } = store;
+    let (book, outs) = run_lanes(rt, alloc, book, clock, lanes, workers, turns, gate);
+    (Store { book, clock }, outs)
 }
 
 // The same, by what runs the lanes of a block.
