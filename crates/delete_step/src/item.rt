@@ -1,3 +1,4 @@
+//! Which item a step logs.
 ghost use Rattle.std.specs.Prelude.{◌≡◌};
 ghost use Rattle.delf_model.specs.Graph.{edge_at, object_at};
 ghost use Rattle.delf_model.specs.Step.{edge_item, object_item, birth_of};

@@ -1,3 +1,4 @@
+//! What an entry does to the graph, and the size of its record's payload.
 ghost use Rattle.std.specs.Prelude.{◌≡◌, ◌≤◌, ℕ, IsTrue, OnOk};
 ghost use Rattle.delf_model.specs.declared.rows.EdgeKey.{EdgeKey};
 ghost use Rattle.delf_model.specs.declared.rows.Item.{Item};

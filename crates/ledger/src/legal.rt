@@ -1,3 +1,4 @@
+//! Whether an entry may come next.
 ghost use Rattle.std.specs.Prelude.{◌≡◌, ◌||◌, max, min, is_none, nat_lt, slice_get, is_some};
 ghost use Rattle.delf_model.specs.State.{State, is_owned_by};
 ghost use Rattle.delf_model.specs.Step.{tag_of as tag_of_entry};
@@ -64,7 +65,7 @@ fn is_tagged(jobs: &JobTable, what: &What) -> bool
     }
 }
 
-/// Whether the type number of a Create and the edge number of a Link are below the counts of the rules.
+/// Whether the rules have the type that a Create names, or the edge type that a Link names.
 fn is_numbered(rules: &Rules, what: &What) -> bool
     ensures { result ≡ is_numbered_entry rules.now what.now }
 {

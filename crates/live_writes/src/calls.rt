@@ -1,3 +1,4 @@
+//! The answer to each kind of call, from its first refusal.
 ghost use Rattle.std.specs.Prelude.{◌≡◌};
 ghost use Rattle.delf_model.specs.State.{State};
 ghost use Rattle.delf_model.specs.Reply.{reply_at};

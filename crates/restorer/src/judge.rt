@@ -1,3 +1,4 @@
+//! Whether an erased row may be put back.
 ghost use Rattle.std.specs.Prelude.{◌≡◌};
 ghost use Rattle.delf_model.specs.Graph.{object_at, edge_at};
 ghost use Rattle.delf_model.specs.State.{State};
