@@ -9,6 +9,7 @@ mod DeadPayloads
 mod Mended
 mod Spelled
 mod Faults
+mod Longer
 mod Wholes
 mod Notes
 mod Pieces

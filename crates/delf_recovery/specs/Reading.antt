@@ -180,3 +180,9 @@ abbrev pub IsJournals : OpenFault → Type 0
 IsJournals DiskFault = ⊥
 IsJournals OutOfMemory = ⊥
 IsJournals (BadStore area at) = area ≡ JournalArea
+
+-- no disk call failed
+abbrev pub IsOfReading : OpenFault → Type 0
+IsOfReading DiskFault = ⊥
+IsOfReading OutOfMemory = Unit {0}
+IsOfReading (BadStore area at) = Unit {0}

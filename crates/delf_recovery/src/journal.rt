@@ -15,6 +15,7 @@ ghost use Rattle.store_laws.specs.Stores.{StandBut, journal_mark};
 ghost use Rattle.entry_codec.specs.EntryHead.{AreEntries};
 ghost use Rattle.opening_laws.specs.Places.{ReadsJournal};
 ghost use Rattle.delf_recovery.specs.Mending.{AreNoted};
+ghost use Rattle.delf_recovery.specs.Opening.{KeepsLonger};
 ghost use Rattle.delf_recovery.specs.Reading.{CountsRead, ShowsBadJournal};
 
 use crate::blank::no_notes;
@@ -53,6 +54,8 @@ pub(crate) fn read_journal<G: GraphStore, D: Disk>(
     ensures crash { Plain (D.told disk.old) (D.honest disk.old) → (rules : RuleSet) (history : List Entry) (e : Payloads)
         → StandBut rules history e (D.seen disk.old)
         → Leaves D.moment D.may_leave D.left_since (StandBut rules history e) disk.old disk.new }
+    ensures longer { Plain (D.told disk.old) (D.honest disk.old)
+        → Leaves D.moment D.may_leave D.left_since (KeepsLonger (D.seen disk.old)) disk.old disk.new }
     ensures any_moment { Plain (D.told disk.old) (D.honest disk.old) → 9 < length (D.seen disk.old).journal
         → Runs D.moment D.may_leave D.left_since Same disk.old disk.new }
     ensures unwritten { Plain (D.told disk.old) (D.honest disk.old) → 9 < length (D.seen disk.old).journal

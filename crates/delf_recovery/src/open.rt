@@ -15,7 +15,7 @@ ghost use Rattle.store_laws.specs.Moves.{RestIn};
 ghost use Rattle.opening_laws.specs.Entries.{SamePayloads};
 ghost use Rattle.opening_laws.specs.Places.{BadPlace};
 ghost use Rattle.delf_book.specs.Holding.{StandWhole};
-ghost use Rattle.delf_recovery.specs.Opening.{rig_in, StandsNow, IsNotBad, IsBadAt, OnlyBad, StaysUnwritten, CountsOpening};
+ghost use Rattle.delf_recovery.specs.Opening.{rig_in, StandsNow, IsNotBad, IsBadAt, OnlyBad, StaysUnwritten, StaysBad, StaysAsRead, WantLeaves, CountsOpening};
 
 use crate::ahead::open_ahead;
 use crate::fault::OpenFault;
@@ -31,7 +31,8 @@ use std::alloc::Global;
 /// comes last. No claim is held.
 ///
 /// With `Err` the disk comes back. `BadStore` comes exactly where a place is bad, the first one; it writes nothing to a
-/// store whose journal is bad.
+/// store whose journal is bad, and nothing to one whose vault is bad but the marks of blank areas. `OutOfMemory` comes
+/// before anything but these is written, too. After both the sync of the start holds.
 pub fn open_book<G: GraphStore + Drop, R: Rig>(
     alloc: Global,
     rules: Rules,
@@ -71,13 +72,22 @@ pub fn open_book<G: GraphStore + Drop, R: Rig>(
     ensures never { Plain (R.Disk.told rig) (R.Disk.honest rig) → (history : List Entry) (e : Payloads)
         → StandBut rules history e (R.Disk.seen rig) → IfErr result (λ it. IsNotBad it.0) }
 
-    // Whatever a crash leaves meanwhile stands for the same, but for what it might have left before.
+    // Whatever a crash leaves meanwhile stands for the same, or is as bad, but for what it might have left before.
     ensures crash { Plain (R.Disk.told rig) (R.Disk.honest rig) → (history : List Entry) (e : Payloads)
         → StandBut rules history e (R.Disk.seen rig)
         → Leaves R.Disk.moment R.Disk.may_leave R.Disk.left_since
         (λ c. R.Disk.may_leave rig c ⊎ StandBut rules history e c) rig (rig_in result) }
+    ensures bad_crash { Plain (R.Disk.told rig) (R.Disk.honest rig) → (area : AnArea) (at : ℕ)
+        → BadPlace rules (R.Disk.seen rig) area at
+        → Leaves R.Disk.moment R.Disk.may_leave R.Disk.left_since
+        (λ c. R.Disk.may_leave rig c ⊎ StaysBad rules area at (R.Disk.seen rig) c) rig (rig_in result) }
     ensures unwritten { Plain (R.Disk.told rig) (R.Disk.honest rig)
         → StaysUnwritten R.Disk.seen R.Disk.may_leave rig result }
+
+    // The sync was made: after want of memory and after a bad place a crash leaves what was read.
+    ensures stays { IfErr result (λ it. Plain (R.Disk.told rig) (R.Disk.honest rig) → StaysAsRead rules (R.Disk.seen rig) R.Disk.may_leave it.1 it.0) }
+    ensures wants { IfErr result (λ it. Plain (R.Disk.told rig) (R.Disk.honest rig) → (history : List Entry) (e : Payloads)
+        → StandBut rules history e (R.Disk.seen rig) → WantLeaves R.Disk.may_leave (StandBut rules history e) it.1 it.0) }
 
     ensures kind { SameKind R.Disk.told R.Disk.honest R.Disk.order R.Disk.orders rig (rig_in result) }
     ensures cause { CountsOpening (R.Disk.faults rig) (R.Disk.faults (rig_in result)) result }

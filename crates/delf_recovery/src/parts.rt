@@ -1,7 +1,8 @@
 //! An opening over a disk that is lent.
-ghost use Rattle.std.specs.Prelude.{◌≡◌, ◌⊎◌, ℕ, List, IfOk, IfErr};
+ghost use Rattle.std.specs.Prelude.{◌≡◌, ℕ, List, IfOk, IfErr};
 ghost use Rattle.delf_disk.specs.declared.area.Area.{Area as AnArea};
 ghost use Rattle.delf_disk.specs.Areas.{Areas};
+ghost use Rattle.delf_disk.specs.Images.{Only};
 ghost use Rattle.delf_disk.specs.Plain.{Plain, SameKind};
 ghost use Rattle.delf_disk.specs.Moments.{Leaves};
 ghost use Rattle.delf_model.specs.declared.entry.Entry.{Entry};
@@ -13,8 +14,8 @@ ghost use Rattle.delf_book.specs.Keeping.{KeepsLogs, KeepsAreas};
 ghost use Rattle.store_laws.specs.Stores.{StandBut, Clean};
 ghost use Rattle.store_laws.specs.Moves.{RestIn};
 ghost use Rattle.opening_laws.specs.Places.{BadPlace};
-ghost use Rattle.delf_recovery.specs.Opening.{StandsNow, IsBadAt, IsNotBad};
-ghost use Rattle.delf_recovery.specs.Reading.{CountsRead, TellsPlace, IsJournals};
+ghost use Rattle.delf_recovery.specs.Opening.{StandsNow, IsBadAt, IsNotBad, KeepsLonger, StaysBad};
+ghost use Rattle.delf_recovery.specs.Reading.{CountsRead, TellsPlace, IsJournals, IsOfReading};
 
 use crate::fault::OpenFault;
 use crate::mending::mend;
@@ -34,7 +35,7 @@ pub(crate) struct Parts<G: GraphStore> {
     pub(crate) vault: Vault,
 }
 
-/// Opens the store that stands on the disk, with a sync first and last.
+/// Opens the store that stands on the disk, where a sync was the last call. It ends with one.
 pub(crate) fn open_parts<G: GraphStore + Drop, D: Disk>(
     alloc: Global,
     rules: Rules,
@@ -43,6 +44,7 @@ pub(crate) fn open_parts<G: GraphStore + Drop, D: Disk>(
 ) -> Result<Parts<G>, OpenFault>
     requires blank { G.graph graph ≡ empty_graph }
     requires counts { (edge : ℕ) → G.counts graph edge ≡ is_refcount rules edge }
+    requires only { Plain (D.told disk.old) (D.honest disk.old) → Only (D.seen disk.old) (D.may_leave disk.old) }
 
     ensures rules { IfOk result (λ parts. parts.fold.rules ≡ rules) }
     ensures legal { IfOk result (λ parts. Legal rules parts.fold.history) }
@@ -66,18 +68,18 @@ pub(crate) fn open_parts<G: GraphStore + Drop, D: Disk>(
 
     ensures crash { Plain (D.told disk.old) (D.honest disk.old) → (history : List Entry) (e : Payloads)
         → StandBut rules history e (D.seen disk.old)
-        → Leaves D.moment D.may_leave D.left_since (λ c. D.may_leave disk.old c ⊎ StandBut rules history e c) disk.old disk.new }
+        → Leaves D.moment D.may_leave D.left_since (StandBut rules history e) disk.old disk.new }
+    ensures bad_crash { Plain (D.told disk.old) (D.honest disk.old) → (area : AnArea) (at : ℕ)
+        → BadPlace rules (D.seen disk.old) area at
+        → Leaves D.moment D.may_leave D.left_since (StaysBad rules area at (D.seen disk.old)) disk.old disk.new }
+    ensures longer { IfErr result (λ fault. IsOfReading fault → Plain (D.told disk.old) (D.honest disk.old) → (c : Areas)
+        → D.may_leave disk.new c → KeepsLonger (D.seen disk.old) c) }
     ensures unwritten { IfErr result (λ fault. IsJournals fault → Plain (D.told disk.old) (D.honest disk.old) → D.seen disk.new ≡ D.seen disk.old) }
-    ensures unchanged { IfErr result (λ fault. IsJournals fault → Plain (D.told disk.old) (D.honest disk.old) → (c : Areas)
-        → D.may_leave disk.new c → D.may_leave disk.old c) }
+    ensures unchanged { IfErr result (λ fault. IsJournals fault → Plain (D.told disk.old) (D.honest disk.old) → Only (D.seen disk.old) (D.may_leave disk.new)) }
 
     ensures kind { SameKind D.told D.honest D.order D.orders disk.old disk.new }
     ensures cause { CountsRead (D.faults disk.old) (D.faults disk.new) result }
 {
-    match disk.sync() {
-        Ok(()) => (),
-        Err(_) => return Err(OpenFault::DiskFault),
-    }
     let mut fold = fold(alloc, rules, graph);
     let logs = match read_areas(alloc, &mut fold, disk) {
         Ok(logs) => logs,

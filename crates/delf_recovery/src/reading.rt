@@ -16,7 +16,7 @@ ghost use Rattle.ledger.specs.Ledgers.{state_of};
 ghost use Rattle.delf_book.specs.Keeping.{journal_sizes};
 ghost use Rattle.store_laws.specs.Stores.{StandBut, vault_of};
 ghost use Rattle.opening_laws.specs.Places.{BadPlace, ReadsJournal};
-ghost use Rattle.delf_recovery.specs.Opening.{StandsNow, IsBadAt, IsNotBad};
+ghost use Rattle.delf_recovery.specs.Opening.{StandsNow, IsBadAt, IsNotBad, KeepsLonger};
 ghost use Rattle.delf_recovery.specs.Mending.{Standing, AreNoted};
 ghost use Rattle.delf_recovery.specs.Reading.{CountsRead, HasItems, TellsPlace, IsJournals, ReadsVault};
 
@@ -68,6 +68,8 @@ pub(crate) fn read_areas<G: GraphStore, D: Disk>(
     ensures crash { Plain (D.told disk.old) (D.honest disk.old) → (rules : RuleSet) (history : List Entry) (e : Payloads)
         → StandBut rules history e (D.seen disk.old)
         → Leaves D.moment D.may_leave D.left_since (StandBut rules history e) disk.old disk.new }
+    ensures longer { Plain (D.told disk.old) (D.honest disk.old)
+        → Leaves D.moment D.may_leave D.left_since (KeepsLonger (D.seen disk.old)) disk.old disk.new }
 
     ensures kind { SameKind D.told D.honest D.order D.orders disk.old disk.new }
     ensures cause { CountsRead (D.faults disk.old) (D.faults disk.new) result }

@@ -13,6 +13,7 @@ ghost use Rattle.job_table.specs.Table.{item_at};
 ghost use Rattle.store_laws.specs.Stores.{StandBut, vault_mark};
 ghost use Rattle.entry_codec.specs.EntryHead.{AreEntries};
 ghost use Rattle.delf_recovery.specs.Mending.{AreNoted};
+ghost use Rattle.delf_recovery.specs.Opening.{KeepsLonger};
 ghost use Rattle.delf_recovery.specs.Reading.{CountsRead, ShowsFaulty, ReadsVault, HasItems, WhyFaulty};
 
 use crate::blank::no_notes;
@@ -74,6 +75,8 @@ pub(crate) fn read_vault<G: GraphStore, D: Disk>(
     ensures crash { Plain (D.told disk.old) (D.honest disk.old) → (rules : RuleSet) (history : List Entry) (e : Payloads)
         → StandBut rules history e (D.seen disk.old)
         → Leaves D.moment D.may_leave D.left_since (StandBut rules history e) disk.old disk.new }
+    ensures longer { Plain (D.told disk.old) (D.honest disk.old)
+        → Leaves D.moment D.may_leave D.left_since (KeepsLonger (D.seen disk.old)) disk.old disk.new }
 
     ensures kind { SameKind D.told D.honest D.order D.orders disk.old disk.new }
     ensures cause { CountsRead (D.faults disk.old) (D.faults disk.new) result }

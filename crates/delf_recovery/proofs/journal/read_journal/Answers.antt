@@ -14,6 +14,7 @@ use Rattle.delf_recovery.specs.Mending.{AreNoted}
 use Rattle.delf_recovery.specs.Reading.{ReadsEntries, EndsWrong}
 use Rattle.delf_recovery.proofs.Notes.{none_noted, stands_whole}
 use Rattle.delf_recovery.proofs.Started.{fronts_now, start_leaves, leaves_still}
+use Rattle.delf_recovery.proofs.Longer.{start_keeps}
 use Rattle.delf_recovery.proofs.JournalJudged.{reads_journal, bad_journal, not_bad_journal}
 use Rattle.delf_recovery.proofs.journal.read_journal.Goals as goal
 use Rattle.delf_recovery.proofs.journal.read_journal.Goals.{then-read-count-via-then-read-count, then-read-count-via-else-read-count+then-not-front}
@@ -108,4 +109,30 @@ pub returns-clause-crash : goal.returns-clause-crash
 returns-clause-crash g c = λ plain rules h e but.
     leaves_still
     (start_leaves rules h e area.Journal (g.D.Disk.seen c.args.disk.now) (c.requires.only plain) but (c.start_area.ensures.any_moment_blank plain) (c.start_area.ensures.any_moment plain))
+    (c.read_entries.ensures.any_moment (stays_plain c.start_area.ensures.kind plain))
+
+pub returns-in_err-front-clause-longer : goal.returns-in_err-front-clause-longer
+returns-in_err-front-clause-longer g c = λ plain.
+    start_keeps area.Journal (g.D.Disk.seen c.args.disk.now) (c.requires.only plain) (c.start_area.ensures.any_moment_blank plain) (c.start_area.ensures.any_moment plain)
+
+pub returns-in_err-notes-clause-longer : goal.returns-in_err-notes-clause-longer
+returns-in_err-notes-clause-longer g c = λ plain.
+    start_keeps area.Journal (g.D.Disk.seen c.args.disk.now) (c.requires.only plain) (c.start_area.ensures.any_moment_blank plain) (c.start_area.ensures.any_moment plain)
+
+pub returns-in_err-read-clause-longer : goal.returns-in_err-read-clause-longer
+returns-in_err-read-clause-longer g c = λ plain.
+    leaves_still
+    (start_keeps area.Journal (g.D.Disk.seen c.args.disk.now) (c.requires.only plain) (c.start_area.ensures.any_moment_blank plain) (c.start_area.ensures.any_moment plain))
+    (c.read_entries.ensures.any_moment (stays_plain c.start_area.ensures.kind plain))
+
+pub returns-then-read-count-clause-longer : goal.returns-then-read-count-clause-longer
+returns-then-read-count-clause-longer g c = λ plain.
+    leaves_still
+    (start_keeps area.Journal (g.D.Disk.seen c.args.disk.now) (c.requires.only plain) (c.start_area.ensures.any_moment_blank plain) (c.start_area.ensures.any_moment plain))
+    (c.read_entries.ensures.any_moment (stays_plain c.start_area.ensures.kind plain))
+
+pub returns-clause-longer : goal.returns-clause-longer
+returns-clause-longer g c = λ plain.
+    leaves_still
+    (start_keeps area.Journal (g.D.Disk.seen c.args.disk.now) (c.requires.only plain) (c.start_area.ensures.any_moment_blank plain) (c.start_area.ensures.any_moment plain))
     (c.read_entries.ensures.any_moment (stays_plain c.start_area.ensures.kind plain))

@@ -47,3 +47,6 @@ returns-in-Ok-clause-whole g c = λ plain whole.
     (subst (λ (x : g.row.R.Denot). StandWhole c.args.rules (g.R.Disk.seen x)) (sym c.into_book.ensures.opened)
     (whole_now c.args.rules whole.0 f.history whole.1.0 (g.R.Disk.seen c.in-Ok.rig) opened.0 c.in-Ok.ensures.legal
     (opened.1 (g.R.Disk.seen c.in-Ok.rig) (g.met.R.Disk.reads_as_image c.in-Ok.rig after_it)) whole.1.1.sealed))
+
+pub returns-in-Ok-clause-bad_crash : goal.returns-in-Ok-clause-bad_crash
+returns-in-Ok-clause-bad_crash g c = λ plain it at place. absurd (c.in-Ok.ensures.well plain it at place)

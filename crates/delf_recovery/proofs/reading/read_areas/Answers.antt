@@ -13,6 +13,7 @@ use Rattle.delf_recovery.specs.Reading.{ShowsFaulty, ReadsVault}
 use Rattle.delf_recovery.proofs.Notes.{noted_there}
 use Rattle.delf_recovery.proofs.Started.{log_now}
 use Rattle.delf_recovery.proofs.Spelled.{reads_stand}
+use Rattle.delf_recovery.proofs.Longer.{keeps_joined}
 use Rattle.delf_recovery.proofs.Faults.{journal_never, vault_bad, vault_never}
 use Rattle.delf_recovery.proofs.reading.read_areas.Goals as goal
 
@@ -89,3 +90,17 @@ pub returns-in-Ok-read_vault-clause-journal_noted : goal.returns-in-Ok-read_vaul
 returns-in-Ok-read_vault-clause-journal_noted g c = λ plain.
     let starts = c.in-Ok-read_vault.ensures.starts (stays_plain c.read_journal.ensures.kind plain) in
     noted_there area.Journal (g.D.Disk.seen c.read_journal.new.disk) (g.D.Disk.seen c.read_vault.new.disk) c.in-Ok.journal.notes.items starts.other (c.in-Ok.ensures.noted plain)
+
+pub returns-in-Err-read_vault-clause-longer : goal.returns-in-Err-read_vault-clause-longer
+returns-in-Err-read_vault-clause-longer g c = λ plain.
+    let now = stays_plain c.read_journal.ensures.kind plain in
+    let mid = g.D.Disk.seen c.read_journal.new.disk in
+    let first = c.read_journal.ensures.longer plain in
+    keeps_joined (g.D.Disk.seen c.args.disk.now) mid first (first.now mid (g.met.D.Disk.reads_as_image c.read_journal.new.disk now)) (c.read_vault.ensures.longer now)
+
+pub returns-in-Ok-read_vault-clause-longer : goal.returns-in-Ok-read_vault-clause-longer
+returns-in-Ok-read_vault-clause-longer g c = λ plain.
+    let now = stays_plain c.read_journal.ensures.kind plain in
+    let mid = g.D.Disk.seen c.read_journal.new.disk in
+    let first = c.read_journal.ensures.longer plain in
+    keeps_joined (g.D.Disk.seen c.args.disk.now) mid first (first.now mid (g.met.D.Disk.reads_as_image c.read_journal.new.disk now)) (c.read_vault.ensures.longer now)

@@ -12,6 +12,7 @@ use Rattle.delf_recovery.specs.Mending.{AreNoted}
 use Rattle.delf_recovery.specs.Reading.{ReadsItems, EndsUnspelled, FaultyVault, WhyFaulty}
 use Rattle.delf_recovery.proofs.Notes.{none_noted, stands_whole}
 use Rattle.delf_recovery.proofs.Started.{fronts_now, start_leaves, leaves_still}
+use Rattle.delf_recovery.proofs.Longer.{start_keeps}
 use Rattle.delf_recovery.proofs.VaultJudged.{item_there, item_gone, has_items, reads_vault, faulty_vault}
 use Rattle.delf_recovery.proofs.vaults.read_vault.Goals as goal
 
@@ -106,4 +107,30 @@ pub returns-clause-crash : goal.returns-clause-crash
 returns-clause-crash g c = λ plain rules h e but.
     leaves_still
     (start_leaves rules h e area.Vault (g.D.Disk.seen c.args.disk.now) (c.requires.only plain) but (c.start_area.ensures.any_moment_blank plain) (c.start_area.ensures.any_moment plain))
+    (c.read_items.ensures.any_moment (stays_plain c.start_area.ensures.kind plain))
+
+pub returns-in_err-front-clause-longer : goal.returns-in_err-front-clause-longer
+returns-in_err-front-clause-longer g c = λ plain.
+    start_keeps area.Vault (g.D.Disk.seen c.args.disk.now) (c.requires.only plain) (c.start_area.ensures.any_moment_blank plain) (c.start_area.ensures.any_moment plain)
+
+pub returns-in_err-notes-clause-longer : goal.returns-in_err-notes-clause-longer
+returns-in_err-notes-clause-longer g c = λ plain.
+    start_keeps area.Vault (g.D.Disk.seen c.args.disk.now) (c.requires.only plain) (c.start_area.ensures.any_moment_blank plain) (c.start_area.ensures.any_moment plain)
+
+pub returns-in_err-read-clause-longer : goal.returns-in_err-read-clause-longer
+returns-in_err-read-clause-longer g c = λ plain.
+    leaves_still
+    (start_keeps area.Vault (g.D.Disk.seen c.args.disk.now) (c.requires.only plain) (c.start_area.ensures.any_moment_blank plain) (c.start_area.ensures.any_moment plain))
+    (c.read_items.ensures.any_moment (stays_plain c.start_area.ensures.kind plain))
+
+pub returns-in-Some-clause-longer : goal.returns-in-Some-clause-longer
+returns-in-Some-clause-longer g c = λ plain.
+    leaves_still
+    (start_keeps area.Vault (g.D.Disk.seen c.args.disk.now) (c.requires.only plain) (c.start_area.ensures.any_moment_blank plain) (c.start_area.ensures.any_moment plain))
+    (c.read_items.ensures.any_moment (stays_plain c.start_area.ensures.kind plain))
+
+pub returns-clause-longer : goal.returns-clause-longer
+returns-clause-longer g c = λ plain.
+    leaves_still
+    (start_keeps area.Vault (g.D.Disk.seen c.args.disk.now) (c.requires.only plain) (c.start_area.ensures.any_moment_blank plain) (c.start_area.ensures.any_moment plain))
     (c.read_items.ensures.any_moment (stays_plain c.start_area.ensures.kind plain))
