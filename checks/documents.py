@@ -101,7 +101,16 @@ for text in (
     b"schema 1\x00window 0\n", b"schema 1\x0cwindow 0\n", b"schema\xa01\nwindow 0\n",
 ):
     agrees("line ends", text)
-for rest in (b"par workers 1 turns 1\nlane\nend\n", b"par workers 1 turns 1\n", b"lane\n", b"end\n", b"show\npar workers 99 turns 1\n", b"jobb\npar workers 1 turns 1\n"):
+BEGUN = b"par workers 1 turns 1\n"
+for rest in (
+    BEGUN + b"lane\nend\n", BEGUN, b"lane\n", b"end\n", b"show\npar workers 99 turns 1\n", b"jobb\n" + BEGUN, BEGUN + b"lane\n", BEGUN + b"end\n", BEGUN + b"show\nlane\nend\n",
+    b"par quiet workers 0 turns 1000000\nlane\nlane\nget 1\nend\n" + BEGUN + b"lane\nend\nshow\n", b"par workers 17 turns 1\n", b"par workers 1 turns 0\n", b"par workers 1 turns 1000001\n",
+    b"par quiet workers 01 turns 1\n", b"par loud workers 1 turns 1\n", BEGUN + b"lane\n" * 16 + b"end\n", BEGUN + b"lane\n" * 17 + b"end\n", BEGUN + b"lane\nend\nend\n", BEGUN + b"lane\nlane lane\nend\n",
+    *(BEGUN + b"lane\n" + line + b"\nend\n" for line in (
+        b"create 1 user \"a\"", b"create 1 nix", b"update 1 \"a", b"link owns 1 2", b"unlink owns 1 2 job 1", b"delete 0 job 1", b"restore expiry 7", b"get 1", b"\"get\" 1",
+        b"show", b"work 0", b"job 1", b"jobs", b"report", b"tick 1", b"fail 1", b"crash 1", b"# a", BEGUN[:-1], b"script",
+    )),
+):
     agrees("a block", HEAD + b"script\n" + rest)
 ok("line ends, owed lines and blocks")
 

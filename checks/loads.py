@@ -1,4 +1,6 @@
-"""loads.py DELF [full]: `load N` makes the script of docs/LANGUAGE.md: its line, and every byte of both areas, over an empty store and again over its own.
+"""loads.py DELF [full]: `load N` makes the script of docs/LANGUAGE.md: its line, and the rows, jobs and length of the store, over an empty store and again over its own.
+
+Its lanes run on threads, in any order, so that births and places in the files differ from run to run: the store is read back and compared by ids, keys and names.
 
 Run it as `python3 checks/loads.py crates/delf/out/delf`. With `full` come N of up to 20,000, whose lines alone are compared.
 """
@@ -38,6 +40,10 @@ def line_of(n, state):
     return f"load {n} objects {len(state.objects)} edges {len(state.edges)} history {state.length} jobs {len(state.jobs)} restored {restored}\n"
 
 
+def held(state):
+    return set(state.objects), set(state.edges), sorted(state.jobs.values())
+
+
 def agrees(n, folder):
     before = store.load(folder)
     came = run(folder, b"not a document", ["load", str(n)])
@@ -46,8 +52,9 @@ def agrees(n, folder):
     # The moment is the clock's: that of the last entry that this load made.
     state, _ = store.read_store(schema, *after)
     wanted = store.expects(SCHEMA + script_of(n), *before, state.moment)
-    if came != (line_of(n, state), 0) or after != wanted[2]:
-        wrong(f"load {n}", (came, after == wanted[2]), line_of(n, state))
+    serial, _ = store.read_store(schema, *wanted[2])
+    if came != (line_of(n, state), 0) or came[0] != line_of(n, serial) or held(state) != held(serial):
+        wrong(f"load {n}", (came, held(state)), (line_of(n, serial), held(serial)))
 
 
 for n in (8, 9, 10, 11, 12, 15, 16, 31, 32, 33, 64, 100):

@@ -244,8 +244,47 @@ def command_of(schema, number, words):
     raise Fault(number, "malformed")
 
 
+LANE_COMMANDS = (b"create", b"update", b"link", b"unlink", b"delete", b"restore", b"get")
+
+
+def block_form(number, words):
+    """The form of this line, where it begins a block."""
+    for form in ("par workers N turns N", "par quiet workers N turns N"):
+        values = fits(form, words)
+        if values is not None:
+            out_of_range(number, values[0], 0, 16)
+            out_of_range(number, values[1], 1, 1_000_000)
+            return form
+    return None
+
+
+def script_of(schema, kept, count):
+    """The commands of these lines, with each block as ("par", the form of its first line, lanes)."""
+    commands, head, lanes = [], None, []
+    for number, line in kept:
+        words = words_of(line)
+        if head is None:
+            head = block_form(number, words)
+            if head is None:
+                commands.append(command_of(schema, number, words))
+        elif words == [b"lane"]:
+            if len(lanes) == 16:
+                raise Fault(number, "out of range")
+            lanes.append([])
+        elif lanes and words == [b"end"]:
+            commands.append(("par", head, lanes))
+            head, lanes = None, []
+        elif lanes and words is not None and words[0] in LANE_COMMANDS:
+            lanes[-1].append(command_of(schema, number, words))
+        else:
+            raise Fault(number, "malformed")
+    if head is not None:
+        raise Fault(count + 1, "malformed")
+    return commands
+
+
 def read_document(document):
-    """Schema and commands, or Fault. Blocks are not served."""
+    """Schema and commands, or Fault. What a block leads to is not told here."""
     if len(document) > 16_777_216:
         raise Fault(0, "document too long")
     kept, count = lines_of(document)
@@ -270,7 +309,7 @@ def read_document(document):
             break
         schema_line(schema, number, words)
     check(schema)
-    return schema, [command_of(schema, number, words_of(line)) for number, line in kept[place:]]
+    return schema, script_of(schema, kept[place:], count)
 
 
 # ---- the state after a history
@@ -597,6 +636,11 @@ def quoted(payload):
     return f'"{text}"'
 
 
+def job_name(form, values):
+    """The job that a command names, if it names one."""
+    return ("expiry", values[0]) if "expiry" in form else values[0] if values else None
+
+
 def name_of(name):
     return f"expiry {name[1]}" if isinstance(name, tuple) else str(name)
 
@@ -676,16 +720,32 @@ class Run:
     def say(self, line):
         self.lines.append(line)
 
+    def read(self, id):
+        """The line of a question."""
+        state = self.state
+        if id not in state.objects:
+            return f"at {state.length} absent {id}"
+        return f"at {state.length} {object_line(state, id, self.disk.payload(state, state.objects[id][3]))}"
+
+    def refused(self, kind, values, payload):
+        """The line of a call that is refused now, or None."""
+        refusal = self.state.refuses(self.now(), kind, values, len(payload))
+        return f"refused {refusal[0]} at {self.state.length} {refusal[1]}" if refusal else None
+
+    def entry_of(self, seat, kind, values):
+        """The entry of a call that is accepted now."""
+        state = self.state
+        entry_values = [state.find(values[0])] if kind == "restore" else values
+        return (self.now(), kind, (seat, state.seats.get(seat, 0)), *entry_values)
+
     def call(self, kind, values, payload, line):
         state = self.state
         if self.down:
             return self.say(f"refused 1 at {state.length} down")
-        moment = self.now()
-        refusal = state.refuses(moment, kind, values, len(payload))
-        if refusal:
-            return self.say(f"refused {refusal[0]} at {state.length} {refusal[1]}")
-        entry_values = [state.find(values[0])] if kind == "restore" else values
-        entry = (moment, kind, (0, state.seats.get(0, 0)), *entry_values)
+        refused = self.refused(kind, values, payload)
+        if refused:
+            return self.say(refused)
+        entry = self.entry_of(0, kind, values)
         text = line(state)
         position = state.length
         try:
@@ -713,18 +773,18 @@ class Run:
                 return self.say(f"work {made} down at {at}")
         return self.say(f"work {most}")
 
-    def make(self, command):
+    def call_of(self, command):
+        """What `call` takes of a command, where it is a call."""
         word, form, values = command
-        state = self.state
         if word == "create":
             payload = values[2] if len(values) > 2 else b""
-            return self.call(word, [self.schema.kind(values[1]), values[0]], payload, lambda s: f"created {values[0]}")
+            return word, [self.schema.kind(values[1]), values[0]], payload, lambda s: f"created {values[0]}"
         if word == "update":
-            return self.call(word, values[:1], values[1], lambda s: f"updated {values[0]}")
+            return word, values[:1], values[1], lambda s: f"updated {values[0]}"
         if word == "link":
             payload = values[3] if len(values) > 3 else b""
             numbers = [self.schema.edge(values[0]), *values[1:3]]
-            return self.call(word, numbers, payload, lambda s: "linked {} {} {}".format(*values[:3]))
+            return word, numbers, payload, lambda s: "linked {} {} {}".format(*values[:3])
         if word == "unlink":
             numbers = [self.schema.edge(values[0]), *values[1:]]
 
@@ -732,14 +792,23 @@ class Run:
                 text = "unlinked {} {} {}".format(*values[:3])
                 return text + (f" deleting {values[2]} job {values[3]}" if before.starts_by_unlink(numbers[0], numbers[2]) else "")
 
-            return self.call(word, numbers, b"", unlinked)
+            return word, numbers, b"", unlinked
         if word == "delete":
-            return self.call(word, values, b"", lambda s: "deleting {} job {}".format(*values))
-        name = ("expiry", values[0]) if "expiry" in form else values[0] if values else None
+            return word, values, b"", lambda s: "deleting {} job {}".format(*values)
         if word == "restore":
-            return self.call(
-                word, [name], b"", lambda s: f"restoring {name_of(name)} items {len(s.items_of(s.find(name)))}"
-            )
+            name = job_name(form, values)
+            return word, [name], b"", lambda s: f"restoring {name_of(name)} items {len(s.items_of(s.find(name)))}"
+        return None
+
+    def make(self, command):
+        word, form, values = command
+        if word == "par":
+            raise NotImplementedError("what a block leads to depends on its threads")
+        call = self.call_of(command)
+        if call is not None:
+            return self.call(*call)
+        state = self.state
+        name = job_name(form, values)
         if word == "work":
             return self.work(values[0])
         if word == "tick":
@@ -759,10 +828,7 @@ class Run:
         elif self.down:
             self.say(f"refused 1 at {state.length} down")
         elif word == "get":
-            id = values[0]
-            if id not in state.objects:
-                return self.say(f"at {state.length} absent {id}")
-            self.say(f"at {state.length} {object_line(state, id, self.disk.payload(state, state.objects[id][3]))}")
+            self.say(self.read(values[0]))
         elif word == "show":
             self.say(f"graph {len(state.objects)} {len(state.edges)}")
             for id in sorted(state.objects):

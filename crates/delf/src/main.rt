@@ -4,7 +4,8 @@
 
 use delf_disk::FileDisk;
 use delf_io::{StdSink, StdSource, SystemClock};
-use script_runner::{Status, run_plain};
+use delf_service::OpenGate;
+use script_runner::{Status, run};
 use std::alloc::{AllocError, Global};
 use std::env;
 use std::io::ErrorKind;
@@ -21,13 +22,15 @@ fn main(rt: HostRuntime) -> ExitCode {
     let mut source = StdSource::of(rt.stdin());
     let mut sink = StdSink::of(rt.stdout());
     let mut clock = SystemClock::of(&rt);
-    let (status, _rig) = run_plain(
+    let (status, _rig) = run(
+        &rt,
         rt.alloc(),
         words.as_slice(),
         &mut source,
         &mut sink,
         rig,
         &mut clock,
+        &OpenGate,
     );
     ExitCode::from(status.code())
 }

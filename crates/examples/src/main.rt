@@ -3,7 +3,9 @@
 
 use delf_disk::FileDisk;
 use delf_io::{Bytes, ListClock, MemSink, MemSource, Numbers};
-use script_runner::run_plain;
+use delf_service::OpenGate;
+use script_runner::run;
+use std::alloc::{AllocError, Global};
 use std::fs::File;
 use std::rt::Files;
 use std::{fs, io};
@@ -18,7 +20,7 @@ struct Example {
 
 const RUN: &[&str] = &["run", "--at", "0"];
 
-const EXAMPLES: [Example; 10] = [
+const EXAMPLES: [Example; 11] = [
     Example {
         words: RUN,
         document: "first.document",
@@ -69,6 +71,12 @@ const EXAMPLES: [Example; 10] = [
         store: "expiry",
     },
     Example {
+        words: RUN,
+        document: "block.document",
+        output: "block.output",
+        store: "block",
+    },
+    Example {
         words: &["check"],
         document: "no_route.document",
         output: "no_route.checked",
@@ -82,54 +90,52 @@ const EXAMPLES: [Example; 10] = [
     },
 ];
 
-// What the program prints of an example.
-fn printed<R: Files<File = File> + AllocGlobal + Sync>(
-    rt: &R,
-    example: &Example,
-) -> io::Result<MemSink> {
-    let alloc = rt.alloc();
+// The program's words.
+fn words_of(alloc: Global, example: &Example) -> Result<Vec<String>, AllocError> {
     let mut words = Vec::new(alloc);
     for word in example.words {
         words.push(String::from_str(alloc, word)?)?;
     }
-    let document = fs::read_to_string(rt, example.document)?;
-    let mut source = MemSource::of(
-        Bytes::of(alloc, document.as_bytes())?,
-        Numbers::of(alloc, &[])?,
-    );
-    let mut sink = MemSink::of(alloc, Numbers::of(alloc, &[])?);
-    let mut clock = ListClock::of(Numbers::of(alloc, &[])?);
-    fs::create_dir_all(rt, example.store)?;
-    let disk = FileDisk::at(rt, alloc, example.store)?;
-    let (_status, _disk) = run_plain(
-        alloc,
-        words.as_slice(),
-        &mut source,
-        &mut sink,
-        disk,
-        &mut clock,
-    );
-    Ok(sink)
+    Ok(words)
 }
 
-// Whether the example prints what is written beside it.
-fn is_written<R: Files<File = File> + AllocGlobal + Sync>(
+// The document, as a source.
+fn source_of<R: Files<File = File> + AllocGlobal>(
     rt: &R,
+    alloc: Global,
     example: &Example,
-) -> io::Result<bool> {
-    let sink = printed(rt, example)?;
-    let output = fs::read_to_string(rt, example.output)?;
-    Ok(sink.held() == output.as_bytes())
+) -> io::Result<MemSource> {
+    let document = fs::read_to_string(rt, example.document)?;
+    let bytes = Bytes::of(alloc, document.as_bytes())?;
+    Ok(MemSource::of(bytes, Numbers::of(alloc, &[])?))
 }
 
 fn main(rt: HostRuntime) -> io::Result<()> {
+    let alloc = rt.alloc();
     for example in &EXAMPLES {
+        let words = words_of(alloc, example)?;
+        let mut source = source_of(&rt, alloc, example)?;
+        let mut sink = MemSink::of(alloc, Numbers::of(alloc, &[])?);
+        let mut clock = ListClock::of(Numbers::of(alloc, &[])?);
+        fs::create_dir_all(&rt, example.store)?;
+        let disk = FileDisk::at(&rt, alloc, example.store)?;
+        let (_status, _disk) = run(
+            &rt,
+            alloc,
+            words.as_slice(),
+            &mut source,
+            &mut sink,
+            disk,
+            &mut clock,
+            &OpenGate,
+        );
         let document = example.document;
-        let output = example.output;
-        if is_written(&rt, example)? {
-            println!(rt; "{document} prints {output}")?;
+        let name = example.output;
+        let output = fs::read_to_string(&rt, name)?;
+        if sink.held() == output.as_bytes() {
+            println!(rt; "{document} prints {name}")?;
         } else {
-            println!(rt; "{document} does not print {output}")?;
+            println!(rt; "{document} does not print {name}")?;
         }
     }
     Ok(())

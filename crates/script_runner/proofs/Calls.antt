@@ -106,7 +106,7 @@ accepted_halts at may_leave left_since asked old now clock e receipt a safe stan
     let w : World = world_of old clock e in
     record {
       next = fallen w (Some (interrupted w a.what (given_by asked)));
-      halts = inr (a.what, (a.is_reply, inr refl));
+      halts = inr (a.up, (a.what, (a.is_reply, inr refl)));
       held = λ c image. ((safe a.what a.is_reply).0 e (stands.rests a.up)).now c image;
     }
 
@@ -194,7 +194,7 @@ pub refused_halts : {G R : Type 0} → (at : R → ℕ) (may_leave : R → Areas
     HaltedAt (Submit asked) (world_of old clock e) (may_leave now.rig)
 refused_halts at may_leave left_since asked old now clock e (DiskFault len) legal i safe stands = record {
   next = fallen (world_of old clock e) (Some (interrupted (world_of old clock e) i.what (given_by asked)));
-  halts = inr (i.what, (i.is_reply, inr refl));
+  halts = inr (i.up, (i.what, (i.is_reply, inr refl)));
   held = λ c image. (safe i.what i.is_reply e (stands.rests i.up)).now c image;
 }
 refused_halts at may_leave left_since asked old now clock e r legal answers safe stands = same_halts may_leave asked old now.rig clock e legal safe stands

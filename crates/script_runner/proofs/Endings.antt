@@ -1,5 +1,5 @@
 -- The last settling, said of the world.
-use Rattle.std.proofs.Common.{◌≡◌, ℕ, false, List, ◌++◌, length, refl, sym, ap, subst, ◌∙◌, inr}
+use Rattle.std.proofs.Common.{◌≡◌, ℕ, ◌≤◌, false, List, ◌++◌, length, refl, sym, ap, subst, ◌∙◌, inr}
 use Rattle.delf_disk.specs.Areas.{Areas}
 use Rattle.delf_disk.specs.Causes.{Rose}
 use Rattle.delf_model.specs.Legal.{Legal}
@@ -31,11 +31,11 @@ down_end {G} {R} may_leave faults old now rig clock len e same was stands =
     (record { down = was.0; count = refl; held = stands.held was.0 })
 
 pub fell_end : {G R : Type 0} → (may_leave : R → Areas → Type 0) (faults : R → ℕ) (old : Booked G R) (now rig : R) (clock : ℕ) (e : Payloads) → rig ≡ now →
-    Legal old.rules old.history → old.down ≡ false → Rose (faults old.rig) (faults now) → RestIn old.rules old.history e (may_leave now) →
+    Legal old.rules old.history → old.down ≡ false → faults old.rig ≤ faults now → Rose (faults old.rig) (faults now) → RestIn old.rules old.history e (may_leave now) →
     StandsOn (world_of old clock e) (may_leave old.rig) → FallsAtEnd (world_of old clock e) (faults old.rig) (faults rig) (may_leave rig)
-fell_end {G} {R} may_leave faults old now rig clock e same legal up rose rests stands =
+fell_end {G} {R} may_leave faults old now rig clock e same legal up later rose rests stands =
     subst (λ (r : R). FallsAtEnd (world_of old clock e) (faults old.rig) (faults r) (may_leave r)) (sym same)
-    (record { up = up; rose = rose; held = rest_held (world_of old clock e) (may_leave now) legal (stands.alone up) rests })
+    (record { up = up; later = later; rose = rose; held = rest_held (world_of old clock e) (may_leave now) legal (stands.alone up) rests })
 
 -- what was put of the line of a disk fault
 pub fell_text : (w : World) (len done start now : ℕ) (images : Areas → Type 0) (before after : List ℕ) (write_rose : Type 0) (status : Status) → len ≡ length w.history →
@@ -46,7 +46,7 @@ fell_text w len done start now images before after write_rose (BadDocument line)
 fell_text w len done start now images before after write_rose ReadFault is falls text cause = text
 fell_text w len done start now images before after write_rose (WriteFault n) is falls text cause =
     (cause.0, falls, subst (λ (l : ℕ). IsCut before after (down_text l)) is text)
-fell_text w len done start now images before after write_rose (OutOfMemory n) is falls text cause = (cause, falls.held, text)
+fell_text w len done start now images before after write_rose (OutOfMemory n) is falls text cause = (cause, falls.later, falls.held, text)
 fell_text w len done start now images before after write_rose (Down n) is falls text cause =
     inr (falls, cause ∙ is, text ∙ ap (λ (l : ℕ). before ++ down_text l) (sym cause))
 fell_text w len done start now images before after write_rose (BadStore area at) is falls text cause = text

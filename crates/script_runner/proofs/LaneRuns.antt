@@ -20,15 +20,15 @@ use Rattle.delf_model.specs.declared.script.LaneCommand.{LaneCommand}
 use Rattle.delf_model.specs.declared.script.LaneCommand.TheVariants as lane
 use Rattle.delf_model.specs.Graph.{object_at}
 use Rattle.delf_model.specs.Legal.{Legal}
-use Rattle.delf_model.specs.Payloads.{Payloads}
+use Rattle.delf_model.specs.Payloads.{Payloads, is_needed, payload_at}
 use Rattle.delf_model.specs.Reply.{reply}
 use Rattle.delf_model.specs.Room.{moment_of}
 use Rattle.delf_model.specs.RuleSet.{RuleSet}
 use Rattle.delf_model.specs.State.{State, start}
 use Rattle.delf_model.specs.Step.{after}
 use Rattle.delf_model.proofs.Runs.{legal_take}
-use Rattle.delf_book.specs.Books.{Booked, HasNumbers}
-use Rattle.delf_book.specs.Holding.{Holds}
+use Rattle.delf_book.specs.Books.{Booked, HasNumbers, state_in}
+use Rattle.delf_book.specs.Holding.{Holds, ArePaired}
 use Rattle.delf_book.specs.declared.answers.Receipt.{Receipt}
 use Rattle.ledger.specs.Ledgers.{found, found_row}
 use Rattle.delf_service.specs.declared.answers.Asked.{Asked}
@@ -54,6 +54,7 @@ use Rattle.script_runner.specs.Serial as serial
 use Rattle.script_runner.specs.Serial.{refused_down}
 use Rattle.script_runner.specs.Standing.{Falls, Carried, HaltedAt}
 use Rattle.script_runner.specs.Worlds.{World, StandsOn, IsHeld, world_of}
+use Rattle.script_runner.proofs.Kept.{kept_bytes}
 use Rattle.script_runner.proofs.Keeping.{object_if}
 use Rattle.script_runner.proofs.Numbered.{rules_after, numbered_after}
 use Rattle.script_runner.proofs.Refusals.{reply_numbered}
@@ -265,11 +266,20 @@ module _ {G R : Type 0} (d : Ghosts R) (schema : Schema) (quiet : Bool) (workers
   pub plain_now : HasLanes first final (length lanes) → Plain (d.told old.rig) (d.honest old.rig) → Plain (d.told now.rig) (d.honest now.rig)
   plain_now has plain = subst (λ (k : Key). Plain k.disk.told k.disk.honest) (sym has.later.key) plain
 
+  -- the payloads of the book at positions from before the block
+  kept_payloads : (e : Payloads) → Plain (d.told old.rig) (d.honest old.rig) → SamePayloads old.payloads e → HasLanes first final (length lanes) →
+      ArePaired (state_in old) old.payloads → ArePaired (state_in now) now.payloads → (p : ℕ) → p < length old.history → is_needed (state_in now) p ≡ true →
+      payload_at now.payloads p ≡ payload_at e p
+  kept_payloads e plain same has paired paired_now p below needed =
+      kept_bytes (state_in old) (state_in now) old.payloads now.payloads p paired paired_now needed
+      (λ bytes there. (has.later.payloads (plain_now has plain)).pairs (p, bytes) below there) ∙ same.bytes p
+
   pub block_carried : (e : Payloads) (outs : List LaneOut) (text : List ℕ) → old.down ≡ false → Plain (d.told old.rig) (d.honest old.rig) → SamePayloads old.payloads e →
+      ArePaired (state_in old) old.payloads → ArePaired (state_in now) now.payloads →
       HasLanes first final (length lanes) → IsBlock first final clock lanes outs → AreFed outs → text ≡ block_lines schema quiet lanes outs (length now.history) now.down →
       (now.down ≡ false → now.beside ≡ None) → Holds d.seen d.may_leave now →
       Carried d.may_leave d.faults schema (Par quiet workers turns lanes) (world_of old clock e) (d.faults old.rig) now clock text
-  block_carried e outs text up plain same has block fed said alone holds = record {
+  block_carried e outs text up plain same paired paired_now has block fed said alone holds = record {
     payloads = now.payloads;
     serves = serial.Blocks.Runs (record {
       up = up;
@@ -277,6 +287,7 @@ module _ {G R : Type 0} (d : Ghosts R) (schema : Schema) (quiet : Bool) (workers
       final = final;
       shows_first = shows_old e plain same;
       shows_final = shows_now (plain_now has plain);
+      kept = kept_payloads e plain same has paired paired_now;
       outs = outs;
       has = has;
       block = block;
@@ -328,15 +339,16 @@ module _ {G R : Type 0} (d : Ghosts R) (schema : Schema) (quiet : Bool) (workers
   -- by what the lanes answered, if memory was not wanting
   pub block_serves : {V E : Type 0} (items : V → List LaneOut) (outs : Result V E) (e : Payloads) (text : List ℕ) (len : ℕ) (down : Bool) → old.down ≡ false →
       Plain (d.told old.rig) (d.honest old.rig) → Legal old.rules old.history → d.may_leave old.rig (d.seen old.rig) → Holds d.seen d.may_leave old →
-      StandsOn (world_of old clock e) (d.may_leave old.rig) → RunsTo first final clock lanes items outs → len ≡ length now.history → down ≡ now.down →
+      StandsOn (world_of old clock e) (d.may_leave old.rig) → ArePaired (state_in old) old.payloads → ArePaired (state_in now) now.payloads →
+      RunsTo first final clock lanes items outs → len ≡ length now.history → down ≡ now.down →
       IsOkAnd outs (λ v. AreFed (items v) × (text ≡ block_lines schema quiet lanes (items v) len down)) →
       (now.down ≡ false → now.beside ≡ None) → Holds d.seen d.may_leave now →
       Carried d.may_leave d.faults schema (Par quiet workers turns lanes) (world_of old clock e) (d.faults old.rig) now clock text
-  block_serves items (Ok v) e text len down up plain legal image held stands runs len_is down_is said alone holds =
-      block_carried e (items v) text up plain (same_before e up legal image held stands) runs.has runs.block said.0
+  block_serves items (Ok v) e text len down up plain legal image held stands paired paired_now runs len_is down_is said alone holds =
+      block_carried e (items v) text up plain (same_before e up legal image held stands) paired paired_now runs.has runs.block said.0
       (said.1 ∙ ap (λ (n : ℕ). block_lines schema quiet lanes (items v) n down) len_is
       ∙ ap (λ (b : Bool). block_lines schema quiet lanes (items v) (length now.history) b) down_is) alone holds
-  block_serves items (Err why) e text len down up plain legal image held stands runs len_is down_is said alone holds = absurd said
+  block_serves items (Err why) e text len down up plain legal image held stands paired paired_now runs len_is down_is said alone holds = absurd said
 
   pub block_lined : {V : Type 0} (items : V → List LaneOut) (v : V) → HasNames schema old.rules → IsNumberedBlock old.rules workers lanes →
       HasLanes first final (length lanes) → IsBlock first final clock lanes (items v) → AreNumberedOuts schema lanes (items v) × (length (items v) ≤ 16)

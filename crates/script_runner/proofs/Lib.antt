@@ -8,7 +8,9 @@ pub mod Crashes
 pub mod Endings
 pub mod Ends
 pub mod Finds
+pub mod Headline
 pub mod Keeping
+pub mod Kept
 pub mod LaneLines
 pub mod LaneRuns
 pub mod Listing

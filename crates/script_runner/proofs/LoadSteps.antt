@@ -125,9 +125,12 @@ put_end n w start now images before after Usage settles held puts = puts
 put_end n w start now images before after (BadDocument line) settles held puts = puts
 put_end n w start now images before after ReadFault settles held puts = puts
 put_end n w start now images before after (WriteFault done) settles held puts = (puts.0, inl (settles, puts.1))
-put_end n w start now images before after (OutOfMemory done) settles held puts = (puts.0, held, puts.1)
+put_end n w start now images before after (OutOfMemory done) settles held puts = (puts.0, omega (arith, settles.count), held, puts.1)
 put_end n w start now images before after (Down len) settles held puts = absurd puts
 put_end n w start now images before after (BadStore area at) settles held puts = puts
+
+stopped_later : (w : World) (start now : ℕ) (images : Areas → Type 0) → StopsDown w start now images → start ≤ now
+stopped_later w start now images stops = elim stops [ inl stays ↦ omega (arith, stays.count) | inr falls ↦ falls.later ]
 
 pub down_text_end : (n : ℕ) (w : World) (len start now : ℕ) (images : Areas → Type 0) (before after : List ℕ) (write_rose : Type 0) (status : Status) → len ≡ length w.history →
     StopsDown w start now images → IsHeld w images → DownText len before after status → DownCause len 0 write_rose status → LoadEndText n w start now images before after status
@@ -137,7 +140,7 @@ down_text_end n w len start now images before after write_rose (BadDocument line
 down_text_end n w len start now images before after write_rose ReadFault is stops held text cause = text
 down_text_end n w len start now images before after write_rose (WriteFault done) is stops held text cause =
     (cause.0, inr (stops, subst (λ (l : ℕ). IsCut before after (down_text l)) is text))
-down_text_end n w len start now images before after write_rose (OutOfMemory done) is stops held text cause = (cause, held, text)
+down_text_end n w len start now images before after write_rose (OutOfMemory done) is stops held text cause = (cause, stopped_later w start now images stops, held, text)
 down_text_end n w len start now images before after write_rose (Down l) is stops held text cause =
     (stops, cause ∙ is, text ∙ ap (λ (k : ℕ). before ++ down_text k) (sym cause))
 down_text_end n w len start now images before after write_rose (BadStore area at) is stops held text cause = text
@@ -165,11 +168,11 @@ was_down_end may_leave faults n old now rig clock len e before after write_rose 
 
 -- the settling met a disk fault
 pub fell_load : {G R : Type 0} → (may_leave : R → Areas → Type 0) (faults : R → ℕ) (n : ℕ) (old : Booked G R) (now rig : R) (clock len : ℕ) (e : Payloads) (before after : List ℕ)
-    (write_rose : Type 0) (status : Status) → rig ≡ now → Legal old.rules old.history → old.down ≡ false → Rose (faults old.rig) (faults now) → len ≡ length old.history →
+    (write_rose : Type 0) (status : Status) → rig ≡ now → Legal old.rules old.history → old.down ≡ false → faults old.rig ≤ faults now → Rose (faults old.rig) (faults now) → len ≡ length old.history →
     RestIn old.rules old.history e (may_leave now) → StandsOn (world_of old clock e) (may_leave old.rig) → DownText len before after status →
     DownCause len 0 write_rose status → LoadEndText n (world_of old clock e) (faults old.rig) (faults rig) (may_leave rig) before after status
-fell_load may_leave faults n old now rig clock len e before after write_rose status same legal up rose len_is rests stands text cause =
-    let falls = fell_end may_leave faults old now rig clock e same legal up rose rests stands in
+fell_load may_leave faults n old now rig clock len e before after write_rose status same legal up later rose len_is rests stands text cause =
+    let falls = fell_end may_leave faults old now rig clock e same legal up later rose rests stands in
     down_text_end n (world_of old clock e) len (faults old.rig) (faults rig) (may_leave rig) before after write_rose status len_is (inr falls) falls.held text cause
 
 pub load_ended : {G R : Type 0} → (may_leave : R → Areas → Type 0) (faults : R → ℕ) (n : ℕ) (schema : Schema) (first : World) (commands : List Command) (start : ℕ)
@@ -234,16 +237,16 @@ load_unopened it start before now write_rose never (BadStore area at) less count
 
 -- the document that a load makes
 
-pub load_of_text : (blocks : Bool) (n : ℕ) (runs : Document → Status → Type 0) (before after : List ℕ) (status : Status) (document : Document) → IsLoad blocks n document → runs document status →
-    LoadedText blocks n runs before after status
-load_of_text blocks n runs before after Done document load holds = record { document = document; load = load; holds = holds }
-load_of_text blocks n runs before after Usage document load holds = record { document = document; load = load; holds = holds }
-load_of_text blocks n runs before after (BadDocument line) document load holds = record { document = document; load = load; holds = holds }
-load_of_text blocks n runs before after ReadFault document load holds = record { document = document; load = load; holds = holds }
-load_of_text blocks n runs before after (WriteFault done) document load holds = record { document = document; load = load; holds = holds }
-load_of_text blocks n runs before after (OutOfMemory done) document load holds = inr (record { document = document; load = load; holds = holds })
-load_of_text blocks n runs before after (Down len) document load holds = record { document = document; load = load; holds = holds }
-load_of_text blocks n runs before after (BadStore area at) document load holds = record { document = document; load = load; holds = holds }
+pub load_of_text : (blocks : Bool) (n : ℕ) (same : Type 0) (runs : Document → Status → Type 0) (before after : List ℕ) (status : Status) (document : Document) → IsLoad blocks n document → runs document status →
+    LoadedText blocks n same runs before after status
+load_of_text blocks n same runs before after Done document load holds = record { document = document; load = load; holds = holds }
+load_of_text blocks n same runs before after Usage document load holds = record { document = document; load = load; holds = holds }
+load_of_text blocks n same runs before after (BadDocument line) document load holds = record { document = document; load = load; holds = holds }
+load_of_text blocks n same runs before after ReadFault document load holds = record { document = document; load = load; holds = holds }
+load_of_text blocks n same runs before after (WriteFault done) document load holds = record { document = document; load = load; holds = holds }
+load_of_text blocks n same runs before after (OutOfMemory done) document load holds = inr (record { document = document; load = load; holds = holds })
+load_of_text blocks n same runs before after (Down len) document load holds = record { document = document; load = load; holds = holds }
+load_of_text blocks n same runs before after (BadStore area at) document load holds = record { document = document; load = load; holds = holds }
 
 -- the clock was asked once
 pub asked_once : (status : Status) (before now : ℕ) (write_rose rig_rose : Type 0) (bad : Area → ℕ → Type 0) → now ≡ next_count before → LoadCause write_rose rig_rose bad status →

@@ -15,7 +15,7 @@ use Rattle.script_runner.specs.declared.faults.LineFault.TheVariants.{OutOfMemor
 use Rattle.script_runner.specs.Lines.{Moved, Dropped, LineLeaves, Tells}
 use Rattle.script_runner.specs.Serial.{refused_down}
 use Rattle.script_runner.specs.Serial as serial
-use Rattle.script_runner.specs.Standing.{Falls, ReadsOut, StaysHeld, LineSaid}
+use Rattle.script_runner.specs.Standing.{Falls, HasSettled, ReadsOut, StaysHeld, LineSaid}
 use Rattle.script_runner.specs.Worlds.{World, StandsOn, world_of, fallen}
 use Rattle.script_runner.proofs.Standing.{rest_held, stands_held, up_stands, fell_world, fell_stands}
 use Rattle.script_runner.proofs.Calls.{ok_is}
@@ -146,6 +146,14 @@ reads_fell {G} {R} told honest may_leave order orders faults old now said text l
       stands = fell_stands old now clock e None (may_leave now.rig) fell
           (rest_held (fallen (world_of old clock e) None) (may_leave now.rig) legal refl (d.rest plain e (stands.rests up)));
     }
+
+-- a report that was told settled
+pub settles_said : {G R : Type 0} → (told honest : R → Bool) (may_leave : R → Areas → Type 0) (order : R → Order) (orders faults : R → ℕ) (old now : Booked G R)
+    (text : List ℕ) (r : Result (List ℕ) LineFault) → LineLeaves told honest may_leave order orders faults old now r →
+    IfOk r (λ line. Plain (told old.rig) (honest old.rig) → HasSettled may_leave now) → LineSaid r text → Plain (told old.rig) (honest old.rig) → HasSettled may_leave now
+settles_said told honest may_leave order orders faults old now text (Ok line) leaves settles said plain = settles plain
+settles_said told honest may_leave order orders faults old now text (Err OutOfMemory) leaves settles said plain = absurd said
+settles_said told honest may_leave order orders faults old now text (Err (Failed len)) leaves settles said plain = λ up. absurd (cc (up, leaves.fell.down))
 
 pub reads_out : {G R : Type 0} → (told honest : R → Bool) (may_leave : R → Areas → Type 0) (order : R → Order) (orders faults : R → ℕ) (old now : Booked G R)
     (said : World → List ℕ) (text : List ℕ) (r : Result (List ℕ) LineFault) → old.down ≡ false → Legal old.rules old.history →

@@ -40,19 +40,19 @@ lift_has blocks left read rest line whole short has = record {
   line_is = has.line_is;
 }
 
-pub source_text : (blocks : Bool) (told : Bool) (left read rest : List ℕ) (runs : Document → Status → Type 0) (before after : List ℕ) (status : Status) → (IsTrue told → left ≡ read ++ rest) → (IsTrue told → length read < 16777217 → rest ≡ []) →
-    BytesText blocks read runs before after status → SourceText blocks told left runs before after status
-source_text blocks told left read rest runs before after Done whole short text = λ t. lift_of blocks left read rest _ (whole t) (short t) text
-source_text blocks told left read rest runs before after (Down len) whole short text = λ t. lift_of blocks left read rest _ (whole t) (short t) text
-source_text blocks told left read rest runs before after (BadStore area at) whole short text = λ t. lift_of blocks left read rest _ (whole t) (short t) text
-source_text blocks told left read rest runs before after (BadDocument line) whole short text = λ t. lift_tells blocks left read rest line before after (whole t) (short t) text
-source_text blocks told left read rest runs before after Usage whole short text = text
-source_text blocks told left read rest runs before after ReadFault whole short text = absurd text
-source_text blocks told left read rest runs before after (WriteFault done) whole short text = λ t. elim text [
-  | inl x ↦ inl (lift_cuts blocks left read rest before after done (whole t) (short t) x)
+pub source_text : (blocks : Bool) (told : Bool) (left read rest : List ℕ) (same : Type 0) (runs : Document → Status → Type 0) (before after : List ℕ) (status : Status) → (IsTrue told → left ≡ read ++ rest) → (IsTrue told → length read < 16777217 → rest ≡ []) →
+    BytesText blocks read same runs before after status → SourceText blocks told left same runs before after status
+source_text blocks told left read rest same runs before after Done whole short text = λ t. lift_of blocks left read rest _ (whole t) (short t) text
+source_text blocks told left read rest same runs before after (Down len) whole short text = λ t. lift_of blocks left read rest _ (whole t) (short t) text
+source_text blocks told left read rest same runs before after (BadStore area at) whole short text = λ t. lift_of blocks left read rest _ (whole t) (short t) text
+source_text blocks told left read rest same runs before after (BadDocument line) whole short text = λ t. lift_tells blocks left read rest line before after (whole t) (short t) text
+source_text blocks told left read rest same runs before after Usage whole short text = text
+source_text blocks told left read rest same runs before after ReadFault whole short text = absurd text
+source_text blocks told left read rest same runs before after (WriteFault done) whole short text = λ t. elim text [
+  | inl x ↦ inl (lift_cuts blocks left read rest before after done (whole t) (short t) x.0, x.1)
   | inr x ↦ inr (lift_of blocks left read rest _ (whole t) (short t) x)
 ]
-source_text blocks told left read rest runs before after (OutOfMemory done) whole short text = λ t. elim text [
+source_text blocks told left read rest same runs before after (OutOfMemory done) whole short text = λ t. elim text [
   | inl x ↦ inl x
   | inr x ↦ inr (lift_of blocks left read rest _ (whole t) (short t) x)
 ]
@@ -80,16 +80,16 @@ source_orders blocks left read rest a l c o (BadStore area at) whole short order
 
 -- a document that was accepted
 
-pub bytes_text : (blocks : Bool) (bytes : List ℕ) (runs : Document → Status → Type 0) (before after : List ℕ) (status : Status) (write_rose rig_rose : Type 0) (bad : Area → ℕ → Type 0)
-    (document : Document) → IsDocument blocks bytes document → ScriptCause write_rose rig_rose bad status → runs document status → BytesText blocks bytes runs before after status
-bytes_text blocks bytes runs before after Done write_rose rig_rose bad document is cause text = record { document = document; read = is; holds = text }
-bytes_text blocks bytes runs before after Usage write_rose rig_rose bad document is cause text = cause
-bytes_text blocks bytes runs before after (BadDocument line) write_rose rig_rose bad document is cause text = absurd cause
-bytes_text blocks bytes runs before after ReadFault write_rose rig_rose bad document is cause text = cause
-bytes_text blocks bytes runs before after (WriteFault done) write_rose rig_rose bad document is cause text = inr (record { document = document; read = is; holds = text })
-bytes_text blocks bytes runs before after (OutOfMemory done) write_rose rig_rose bad document is cause text = inr (record { document = document; read = is; holds = text })
-bytes_text blocks bytes runs before after (Down len) write_rose rig_rose bad document is cause text = record { document = document; read = is; holds = text }
-bytes_text blocks bytes runs before after (BadStore area at) write_rose rig_rose bad document is cause text = record { document = document; read = is; holds = text }
+pub bytes_text : (blocks : Bool) (bytes : List ℕ) (same : Type 0) (runs : Document → Status → Type 0) (before after : List ℕ) (status : Status) (write_rose rig_rose : Type 0) (bad : Area → ℕ → Type 0)
+    (document : Document) → IsDocument blocks bytes document → ScriptCause write_rose rig_rose bad status → runs document status → BytesText blocks bytes same runs before after status
+bytes_text blocks bytes same runs before after Done write_rose rig_rose bad document is cause text = record { document = document; read = is; holds = text }
+bytes_text blocks bytes same runs before after Usage write_rose rig_rose bad document is cause text = cause
+bytes_text blocks bytes same runs before after (BadDocument line) write_rose rig_rose bad document is cause text = absurd cause
+bytes_text blocks bytes same runs before after ReadFault write_rose rig_rose bad document is cause text = cause
+bytes_text blocks bytes same runs before after (WriteFault done) write_rose rig_rose bad document is cause text = inr (record { document = document; read = is; holds = text })
+bytes_text blocks bytes same runs before after (OutOfMemory done) write_rose rig_rose bad document is cause text = inr (record { document = document; read = is; holds = text })
+bytes_text blocks bytes same runs before after (Down len) write_rose rig_rose bad document is cause text = record { document = document; read = is; holds = text }
+bytes_text blocks bytes same runs before after (BadStore area at) write_rose rig_rose bad document is cause text = record { document = document; read = is; holds = text }
 
 pub bytes_cause : (blocks : Bool) (bytes : List ℕ) (write_rose rig_rose : Type 0) (bad : RuleSet → Area → ℕ → Type 0) (status : Status) (document : Document) → IsDocument blocks bytes document →
     ScriptCause write_rose rig_rose (bad document.rules) status → BytesCause blocks bytes write_rose rig_rose bad status
@@ -128,25 +128,28 @@ untouched same write_rose rig_rose bad (BadStore area at) cause = tt
 pub refused_by : (blocks : Bool) (bytes : List ℕ) (fault : DocumentFault) (line : ℕ) (text : List ℕ) → fault ≡ told.Bad line text → IsToldFault blocks bytes fault → IsFault blocks bytes (record { line = line; text = text })
 refused_by blocks bytes fault line text is refusal = subst (IsToldFault blocks bytes) is refusal
 
-pub fault_text_of : (blocks : Bool) (bytes : List ℕ) (fault : DocumentFault) (runs : Document → Status → Type 0) (before after : List ℕ) (status : Status) → IsToldFault blocks bytes fault →
-    FaultText fault before after status → BytesText blocks bytes runs before after status
-fault_text_of blocks bytes fault runs before after Done refusal text = absurd text
-fault_text_of blocks bytes fault runs before after Usage refusal text = text
-fault_text_of blocks bytes fault runs before after (BadDocument line) refusal text = record {
+pub fault_text_of : (blocks : Bool) (bytes : List ℕ) (fault : DocumentFault) (same : Type 0) (runs : Document → Status → Type 0) (before after : List ℕ) (status : Status) → IsToldFault blocks bytes fault → same →
+    FaultText fault before after status → BytesText blocks bytes same runs before after status
+fault_text_of blocks bytes fault same runs before after Done refusal is text = absurd text
+fault_text_of blocks bytes fault same runs before after Usage refusal is text = text
+fault_text_of blocks bytes fault same runs before after (BadDocument line) refusal is text = record {
   fault = record { line = line; text = text.0 };
   refused = refused_by blocks bytes fault line text.0 text.1 refusal;
   line_is = refl;
   text = text.2;
 }
-fault_text_of blocks bytes fault runs before after ReadFault refusal text = text
-fault_text_of blocks bytes fault runs before after (WriteFault done) refusal text = inl (record {
-  fault = record { line = text.0; text = text.1.0 };
-  refused = refused_by blocks bytes fault text.0 text.1.0 text.1.1 refusal;
-  cut = text.1.2;
-})
-fault_text_of blocks bytes fault runs before after (OutOfMemory done) refusal text = inl text
-fault_text_of blocks bytes fault runs before after (Down len) refusal text = absurd text
-fault_text_of blocks bytes fault runs before after (BadStore area at) refusal text = absurd text
+fault_text_of blocks bytes fault same runs before after ReadFault refusal is text = text
+fault_text_of blocks bytes fault same runs before after (WriteFault done) refusal is text = inl (
+  record {
+    fault = record { line = text.0; text = text.1.0 };
+    refused = refused_by blocks bytes fault text.0 text.1.0 text.1.1 refusal;
+    cut = text.1.2;
+  },
+  is,
+)
+fault_text_of blocks bytes fault same runs before after (OutOfMemory done) refusal is text = inl (text.0, text.1, is)
+fault_text_of blocks bytes fault same runs before after (Down len) refusal is text = absurd text
+fault_text_of blocks bytes fault same runs before after (BadStore area at) refusal is text = absurd text
 
 pub fault_cause_of : (blocks : Bool) (bytes : List ℕ) (fault : DocumentFault) (write_rose rig_rose : Type 0) (bad : RuleSet → Area → ℕ → Type 0) (status : Status) → IsToldFault blocks bytes fault →
     FaultCause fault write_rose status → BytesCause blocks bytes write_rose rig_rose bad status

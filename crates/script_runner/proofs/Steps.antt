@@ -31,6 +31,7 @@ use Rattle.script_runner.proofs.Calls.{grew_world, grew_stands}
 -- The steps so far, from a first world on: a book that is up, whose world they lead to, and which rests on its disk.
 pub record SoFar {G R : Type 0} (may_leave : R → Areas → Type 0) (first : World) (made : ℕ) (book : Booked G R) (clock : ℕ) : Type 0 where
   pub payloads : Payloads
+  pub begun : first.down ≡ false
   pub steps : MakesSteps made first (world_of book clock payloads)
   pub alone : book.beside ≡ None
   pub rests : RestIn book.rules book.history payloads (may_leave book.rig)
@@ -38,7 +39,7 @@ pub record SoFar {G R : Type 0} (may_leave : R → Areas → Type 0) (first : Wo
 pub none_so_far : {G R : Type 0} → (may_leave : R → Areas → Type 0) (book : Booked G R) (clock : ℕ) (e : Payloads) → book.down ≡ false →
     StandsOn (world_of book clock e) (may_leave book.rig) → SoFar may_leave (world_of book clock e) 0 book clock
 unfolding MakesSteps
-none_so_far may_leave book clock e up stands = record { payloads = e; steps = refl; alone = stands.alone up; rests = stands.rests up }
+none_so_far may_leave book clock e up stands = record { payloads = e; begun = up; steps = refl; alone = stands.alone up; rests = stands.rests up }
 
 one_more : (first here next : World) (made : ℕ) → MakesSteps made first here → StepsTo here next → MakesSteps (made + 1) first next
 unfolding MakesSteps
@@ -62,6 +63,7 @@ stepped at may_leave left_since first made old now clock position s safe so_far 
     let stands = grew_stands old now clock next entry (may_leave now.rig) s.grew so_far.alone ((safe s.what s.is_first).1 e so_far.rests) in
     record {
       payloads = next;
+      begun = so_far.begun;
       steps = one_more first here (world_of now clock next) made so_far.steps (record {
         what = s.what;
         is_first = s.is_first;
@@ -142,7 +144,7 @@ starved {G} {R} may_leave n made first old rig clock up below legal same so_far 
     let here : World = world_of old clock so_far.payloads in
     record {
       next = here;
-      halts = (made, (here, (below, so_far.steps, inl refl)));
+      halts = inr (so_far.begun, (made, (here, (below, so_far.steps, inl refl))));
       held = subst (λ (r : R). IsHeld here (may_leave r)) (sym same)
           (stands_held here (may_leave old.rig) legal (up_stands here (may_leave old.rig) up so_far.alone so_far.rests));
     }
@@ -158,27 +160,26 @@ work_carried may_leave faults schema n w before now clock made end text up carri
   stands = carried.stands;
 }
 
-ends_halts : (n : ℕ) (w : World) (before now made : ℕ) (end : WorkEnd) (next : World) → made ≤ n → serial.StepsEnd n w before now made end next → serial.HaltsWork n w next
-ends_halts n w before now made end next within (serial.StepsEnd.MakesAll all count steps is) = (made, (next, (within, steps, inl refl)))
-ends_halts n w before now made end next within (serial.StepsEnd.Idles below count steps none is) = (made, (next, (within, steps, inl refl)))
-ends_halts n w before now made end next within (serial.StepsEnd.MeetsDamage item what below count steps first damaged is) = (made, (next, (within, steps, inl refl)))
-ends_halts n w before now made end next within (serial.StepsEnd.Falls here what below rose steps first is fallen_is) =
-    (made, (here, (within, steps, inr (what, (first, fallen_is)))))
+ends_halts : (n : ℕ) (w : World) (before now made : ℕ) (end : WorkEnd) (next : World) → w.down ≡ false → made ≤ n → serial.StepsEnd n w before now made end next → serial.HaltsWork n w next
+ends_halts n w before now made end next up within (serial.StepsEnd.MakesAll all count steps is) = (up, (made, (next, (within, steps, inl refl))))
+ends_halts n w before now made end next up within (serial.StepsEnd.Idles below count steps none is) = (up, (made, (next, (within, steps, inl refl))))
+ends_halts n w before now made end next up within (serial.StepsEnd.MeetsDamage item what below count steps first damaged is) = (up, (made, (next, (within, steps, inl refl))))
+ends_halts n w before now made end next up within (serial.StepsEnd.Falls here what below rose steps first is fallen_is) =
+    (up, (made, (here, (within, steps, inr (what, (first, fallen_is))))))
 
 pub work_halts : {G R : Type 0} → (may_leave : R → Areas → Type 0) (faults : R → ℕ) (n : ℕ) (w : World) (before : ℕ) (now : Booked G R) (clock made : ℕ)
-    (end : WorkEnd) → made ≤ n → Legal now.rules now.history → StepsCarried may_leave faults n w before now clock made end → HaltedAt (Work n) w (may_leave now.rig)
-work_halts may_leave faults n w before now clock made end within legal carried = record {
+    (end : WorkEnd) → w.down ≡ false → made ≤ n → Legal now.rules now.history → StepsCarried may_leave faults n w before now clock made end → HaltedAt (Work n) w (may_leave now.rig)
+work_halts may_leave faults n w before now clock made end up within legal carried = record {
   next = world_of now clock carried.payloads;
-  halts = ends_halts n w before (faults now.rig) made end (world_of now clock carried.payloads) within carried.ends;
+  halts = inr (ends_halts n w before (faults now.rig) made end (world_of now clock carried.payloads) up within carried.ends);
   held = stands_held (world_of now clock carried.payloads) (may_leave now.rig) legal carried.stands;
 }
 
 pub down_halts : {G R : Type 0} → (may_leave : R → Areas → Type 0) (n : ℕ) (book : Booked G R) (clock : ℕ) (e : Payloads) → Legal book.rules book.history →
     StandsOn (world_of book clock e) (may_leave book.rig) → HaltedAt (Work n) (world_of book clock e) (may_leave book.rig)
-unfolding MakesSteps
 down_halts may_leave n book clock e legal stands = record {
   next = world_of book clock e;
-  halts = (0, (world_of book clock e, (omega arith, refl, inl refl)));
+  halts = inl refl;
   held = stands_held (world_of book clock e) (may_leave book.rig) legal stands;
 }
 

@@ -1,5 +1,5 @@
 -- How a script ends, from what its commands came to.
-use Rattle.std.proofs.Common.{◌≡◌, ℕ, ◌+◌, ◌<◌, Some, List, [], ◌++◌, length, get_or, take, refl, sym, ap, subst, ◌∙◌, inl, inr, append_assoc, append-nil}
+use Rattle.std.proofs.Common.{◌≡◌, ℕ, ◌+◌, ◌<◌, ◌≤◌, Some, List, [], ◌++◌, length, get_or, take, refl, sym, ap, subst, ◌∙◌, inl, inr, append_assoc, append-nil}
 use Rattle.delf_disk.specs.Areas.{Areas}
 use Rattle.delf_model.specs.declared.schema.Schema.{Schema}
 use Rattle.delf_model.specs.declared.script.Command.{Command}
@@ -15,7 +15,7 @@ use Rattle.script_runner.specs.declared.status.Status.TheVariants.{Done, Usage, 
 use Rattle.script_runner.specs.Endings.{EndText, UnopenedText, UnopenedCause}
 use Rattle.script_runner.specs.Openings.{Stops, StopCounts}
 use Rattle.documents.specs.Cuts.{IsCut}
-use Rattle.script_runner.specs.Outcomes.{Ran, IsWhole, IsCutScript, Starves, IsStarved, IsDown, ScriptText, HasSound}
+use Rattle.script_runner.specs.Outcomes.{Ran, IsWhole, IsCutScript, Starves, IsStarved, IsDown, ScriptText, HasSound, SettlesAll}
 use Rattle.script_runner.specs.Outcomes as outcome
 use Rattle.script_runner.specs.Serial.{Script}
 use Rattle.script_runner.specs.Standing.{Carried, HaltedAt, Reached}
@@ -46,22 +46,23 @@ cut_from held at after line is cut = subst (λ (t : List ℕ). IsCut t after lin
 
 -- in a command: the disk stands for a world where it may leave it
 abbrev pub starved_in : {G R : Type 0} → (may_leave : R → Areas → Type 0) (faults : R → ℕ) (schema : Schema) (first : World) (commands : List Command) (start i : ℕ) (command : Command)
-    (book : Booked G R) (clock : ℕ) (rig : R) (text : List ℕ) → i < length commands → command ≡ get_or commands i command →
+    (book : Booked G R) (clock : ℕ) (rig : R) (text : List ℕ) → i < length commands → command ≡ get_or commands i command → faults book.rig ≤ faults rig →
     (r : Reached may_leave faults schema first (take i commands) start book clock text) → HaltedAt command (world_of book clock r.payloads) (may_leave rig) →
-    Starves schema first commands start (may_leave rig) i
-starved_in may_leave faults schema first commands start i command book clock rig text below is r halted = record {
+    Starves schema first commands start (faults rig) (may_leave rig) i
+starved_in may_leave faults schema first commands start i command book clock rig text below is later r halted = record {
   ran = ran_of may_leave faults schema first (take i commands) start book clock text r;
+  count = later;
   next = halted.next;
   halts = inr (command, (got commands i command below is, halted.halts));
   held = halted.held;
 }
 
 starved : {G R : Type 0} → (may_leave : R → Areas → Type 0) (faults : R → ℕ) (schema : Schema) (first : World) (commands : List Command) (start i : ℕ) (command : Command)
-    (book : Booked G R) (clock : ℕ) (rig : R) (told : Type 0) (before held after : List ℕ) → told → i < length commands → command ≡ get_or commands i command →
+    (book : Booked G R) (clock : ℕ) (rig : R) (told : Type 0) (before held after : List ℕ) → told → i < length commands → command ≡ get_or commands i command → faults book.rig ≤ faults rig →
     (s : SoFar may_leave faults schema first (take i commands) start book clock told before held) → after ≡ held →
-    HaltedAt command (world_of book clock s.reached.payloads) (may_leave rig) → IsStarved schema first commands start (may_leave rig) before after i
-starved may_leave faults schema first commands start i command book clock rig told before held after tell below is s same halted = record {
-  starves = starved_in may_leave faults schema first commands start i command book clock rig s.text below is s.reached halted;
+    HaltedAt command (world_of book clock s.reached.payloads) (may_leave rig) → IsStarved schema first commands start (faults rig) (may_leave rig) before after i
+starved may_leave faults schema first commands start i command book clock rig told before held after tell below is later s same halted = record {
+  starves = starved_in may_leave faults schema first commands start i command book clock rig s.text below is later s.reached halted;
   text = same ∙ s.put tell;
 }
 
@@ -86,9 +87,10 @@ stopped may_leave faults schema first commands start i n command book clock rig 
 stopped may_leave faults schema first commands start i n command book clock rig told before held after (fault.BadStore area at) write_rose (WriteFault m) tell n_is below is s stops counts text cause =
     absurd (stops s.reached.stands)
 stopped may_leave faults schema first commands start i n command book clock rig told before held after fault.DiskFault write_rose (OutOfMemory m) tell n_is below is s stops counts text cause =
-    subst (λ (k : ℕ). IsStarved schema first commands start (may_leave rig) before after k) (sym (cause ∙ n_is)) (record {
+    subst (λ (k : ℕ). IsStarved schema first commands start (faults rig) (may_leave rig) before after k) (sym (cause ∙ n_is)) (record {
       starves = record {
         ran = ran_of may_leave faults schema first (take i commands) start book clock s.text s.reached;
+        count = counts.later;
         next = world_of book clock s.reached.payloads;
         halts = inl refl;
         held = (stops s.reached.stands).1;
@@ -96,8 +98,8 @@ stopped may_leave faults schema first commands start i n command book clock rig 
       text = text ∙ s.put tell;
     })
 stopped may_leave faults schema first commands start i n command book clock rig told before held after fault.OutOfMemory write_rose (OutOfMemory m) tell n_is below is s stops counts text cause =
-    subst (λ (k : ℕ). IsStarved schema first commands start (may_leave rig) before after k) (sym (cause ∙ n_is))
-    (starved may_leave faults schema first commands start i command book clock rig told before held after tell below is s text (stops s.reached.stands))
+    subst (λ (k : ℕ). IsStarved schema first commands start (faults rig) (may_leave rig) before after k) (sym (cause ∙ n_is))
+    (starved may_leave faults schema first commands start i command book clock rig told before held after tell below is counts.later s text (stops s.reached.stands))
 stopped may_leave faults schema first commands start i n command book clock rig told before held after (fault.BadStore area at) write_rose (OutOfMemory m) tell n_is below is s stops counts text cause =
     absurd (stops s.reached.stands)
 stopped may_leave faults schema first commands start i n command book clock rig told before held after fault.DiskFault write_rose (Down len) tell n_is below is s stops counts text cause =
@@ -120,14 +122,14 @@ pub cut_in_lines : {G R : Type 0} → (may_leave : R → Areas → Type 0) (faul
     (old now : Booked G R) (clock next : ℕ) (rig : R) (told : Type 0) (before held after line : List ℕ) → told → n ≡ i → rig ≡ now.rig → Legal now.rules now.history →
     i < length commands → command ≡ get_or commands i command →
     (s : SoFar may_leave faults schema first (take i commands) start old clock told before held) →
-    Carried may_leave faults schema command (world_of old clock s.reached.payloads) (faults old.rig) now next line → IsCut held after line →
-    IsCutScript schema first commands start (faults rig) (may_leave rig) before after n
-cut_in_lines {G} {R} may_leave faults schema first commands start i n command old now clock next rig told before held after line tell n_is rig_is legal below is s carried cut =
+    (carried : Carried may_leave faults schema command (world_of old clock s.reached.payloads) (faults old.rig) now next line) → IsCut held after line →
+    SettlesAll command (world_of now next carried.payloads) (may_leave now.rig) → IsCutScript schema first commands start (faults rig) (may_leave rig) before after n
+cut_in_lines {G} {R} may_leave faults schema first commands start i n command old now clock next rig told before held after line tell n_is rig_is legal below is s carried cut settles =
     subst (λ (r : R). IsCutScript schema first commands start (faults r) (may_leave r) before after n) (sym rig_is)
     (subst (λ (k : ℕ). IsCutScript schema first commands start (faults now.rig) (may_leave now.rig) before after k) (sym n_is)
     (outcome.IsCutScript.InLines (ran_of may_leave faults schema first (take i commands) start old clock s.text s.reached) command line (world_of now next carried.payloads)
     (got commands i command below is) carried.serves (cut_from held (before ++ s.text) after line (s.put tell) cut)
-    (stands_held (world_of now next carried.payloads) (may_leave now.rig) legal carried.stands)))
+    (stands_held (world_of now next carried.payloads) (may_leave now.rig) legal carried.stands) settles))
 
 -- all commands were made, and the store was to be settled
 pub ended : {G R : Type 0} → (may_leave : R → Areas → Type 0) (faults : R → ℕ) (schema : Schema) (first : World) (commands : List Command) (start n : ℕ)
@@ -151,7 +153,7 @@ ended may_leave faults schema first commands start n book clock rig told before 
     outcome.IsCutScript.InSettling (ran_of may_leave faults schema first commands start book clock s.text s.reached) (text.0 ∙ n_is) text.1.up text.1.rose
     (cut_from held (before ++ s.text) after (down_text (length book.history)) (s.put tell) text.2) text.1.held
 ended {G} {R} may_leave faults schema first commands start n book clock rig told before held after (OutOfMemory m) tell n_is all legal sound s text =
-    subst (λ (k : ℕ). IsStarved schema first commands start (may_leave rig) before after k) (sym text.0) (record {
+    subst (λ (k : ℕ). IsStarved schema first commands start (faults rig) (may_leave rig) before after k) (sym text.0) (record {
       starves = record {
         ran = record {
           text = s.text;
@@ -159,11 +161,12 @@ ended {G} {R} may_leave faults schema first commands start n book clock rig told
           last = world_of book clock s.reached.payloads;
           script = subst (λ (cs : List Command). Script schema first cs start (faults book.rig) s.text (world_of book clock s.reached.payloads)) (sym all) s.reached.script;
         };
+        count = text.1;
         next = world_of book clock s.reached.payloads;
         halts = inl refl;
-        held = text.1;
+        held = text.2;
       };
-      text = text.2 ∙ s.put tell;
+      text = text.3 ∙ s.put tell;
     })
 ended may_leave faults schema first commands start n book clock rig told before held after (Down len) tell n_is all legal sound s text =
     elim text [

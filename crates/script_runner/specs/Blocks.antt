@@ -1,5 +1,5 @@
 -- A block: lanes that run at once, from a world to the next one, and their lines.
-use Rattle.std.specs.Prelude.{◌≡◌, ◌≤◌, ℕ, ◌+◌, Bool, true, false, not, Option, Some, None, Result, Ok, Err, List, [], ◌∷◌, ◌++◌, IfOk, length, is_ok, slice_get, flat_map}
+use Rattle.std.specs.Prelude.{◌≡◌, ◌<◌, ◌≤◌, ℕ, ◌+◌, Bool, true, false, not, Option, Some, None, Result, Ok, Err, List, [], ◌∷◌, ◌++◌, IfOk, IsSomeAnd, length, is_ok, slice_get, flat_map}
 use Rattle.std.specs.Borrow.{Bor}
 use Rattle.std.specs.List.{filter}
 use Rattle.delf_disk.specs.declared.disk.Disk.{Ghosts}
@@ -25,11 +25,12 @@ use Rattle.delf_service.specs.Blocks.{HasLanes, AreToldLanes, IsBlock}
 use Rattle.delf_service.specs.Lanes.{HasCommand, IsStarved}
 use Rattle.delf_service.specs.Rows.{commands_at}
 use Rattle.delf_service.specs.Standings.{IsPlain, payloads_of, standing_of}
+use Rattle.delf_model.specs.Payloads.{is_needed, payload_at}
 use Rattle.opening_laws.specs.Entries.{SamePayloads}
 use Rattle.job_report.specs.Texts.{refusal_text, down_text, found_text, absent_text, lane_text, par_text}
 use Rattle.documents.specs.Names.{kind_name}
 use Rattle.script_runner.specs.Lines.{receipt_text, refusal_name}
-use Rattle.script_runner.specs.Worlds.{World}
+use Rattle.script_runner.specs.Worlds.{World, state_of}
 
 -- who runs lanes
 
@@ -45,18 +46,19 @@ pub record RunsTo {V E : Type 0} (first final : Standing) (now : ℕ) (lanes : L
   pub told : AreToldLanes first final now lanes
   pub block : IfOk outs (λ v. IsBlock first final now lanes (items v))
 
--- one that may be asked to run lanes over what has a book and a moment of the clock, if it serves blocks, and then does, keeps
--- the moment, and leaves no claim
+-- the lanes lead from what has a book and a moment of the clock to what has them: at the same moment, and without a claim
+pub record RunsInto {G R S V E : Type 0} (disk : Ghosts R) (book : S → Booked G R) (clock : S → ℕ) (items : V → List LaneOut) (store : S) (lanes : List Lane)
+    (outs : Result V E) (final : S) : Type 0 where
+  pub keeps : clock final ≡ clock store
+  pub leaves : (book final).held ≡ []
+  pub does : RunsTo (standing_of disk (book store) (Some (clock store))) (standing_of disk (book final) (Some (clock store))) (clock store) lanes items outs
+
+-- one that may be asked to run lanes over what is in a slot, if it serves blocks, and then does, and fills the slot again
 pub record IsRunner {G R S V E : Type 0} (served : Bool) (disk : Ghosts R) (book : S → Booked G R) (clock : S → ℕ) (items : V → List LaneOut)
-    (pre : S → Bor (List Lane) → ℕ → ℕ → Type 0) (post : S → Bor (List Lane) → ℕ → ℕ → S × Result V E → Type 0) : Type 0 where
-  pub may : (store : S) (lanes : Bor (List Lane)) (workers turns : ℕ) → served ≡ true → MayRun (book store).rules workers lanes.now → pre store lanes workers turns
-  pub keeps : (store : S) (lanes : Bor (List Lane)) (workers turns : ℕ) (r : S × Result V E) → served ≡ true → MayRun (book store).rules workers lanes.now →
-      post store lanes workers turns r → clock r.0 ≡ clock store
-  pub leaves : (store : S) (lanes : Bor (List Lane)) (workers turns : ℕ) (r : S × Result V E) → served ≡ true → MayRun (book store).rules workers lanes.now →
-      post store lanes workers turns r → (book r.0).held ≡ []
-  pub does : (store : S) (lanes : Bor (List Lane)) (workers turns : ℕ) (r : S × Result V E) → served ≡ true → MayRun (book store).rules workers lanes.now →
-      post store lanes workers turns r →
-      RunsTo (standing_of disk (book store) (Some (clock store))) (standing_of disk (book r.0) (Some (clock store))) (clock store) lanes.now items r.1
+    (pre : Option S → Bor (List Lane) → ℕ → ℕ → Type 0) (post : Option S → Bor (List Lane) → ℕ → ℕ → Result V E → Option S → Type 0) : Type 0 where
+  pub may : (store : S) (lanes : Bor (List Lane)) (workers turns : ℕ) → served ≡ true → MayRun (book store).rules workers lanes.now → pre (Some store) lanes workers turns
+  pub does : (store : S) (lanes : Bor (List Lane)) (workers turns : ℕ) (outs : Result V E) (left : Option S) → served ≡ true → MayRun (book store).rules workers lanes.now →
+      post (Some store) lanes workers turns outs left → IsSomeAnd left (RunsInto disk book clock items store lanes.now outs)
 
 -- A standing of a shared book, over a plain disk with this count of faults and where no lane is left, in which each call is made
 -- at the world's moment: it has the world's rules, history and payloads, and is down where the world is.
@@ -132,8 +134,8 @@ abbrev pub AreFed : List LaneOut → Type 0
 AreFed outs = (place : ℕ) (out : LaneOut) → slice_get outs place ≡ Some out → HasOnlyFed out.replies
 
 -- The lanes of a block were run from a world that is up. The history of the next world begins with the world's and is legal,
--- each entry behind it has the moment of its place, and is a step or an accepted call of one lane. The payloads at the world's
--- positions are the world's, and each accepted call brought its own. Each lane has the replies of the book to all its commands,
+-- each entry behind it has the moment of its place, and is a step or an accepted call of one lane. Each of the world's positions
+-- that is still needed has the payload that it had, and each accepted call brought its own. Each lane has the replies of the book to all its commands,
 -- each at its length, and its accepted calls stand in their order. While the next world is up no step is left, or the first is
 -- one that would put back a damaged item; it is down only where the count of faults rose.
 pub record RunsLanes (schema : Schema) (w : World) (quiet : Bool) (lanes : List Lane) (before now : ℕ) (text : List ℕ) (next : World) : Type 0 where
@@ -142,6 +144,7 @@ pub record RunsLanes (schema : Schema) (w : World) (quiet : Bool) (lanes : List 
   pub final : Standing
   pub shows_first : Shows first w before
   pub shows_final : Shows final next now
+  pub kept : (p : ℕ) → p < length w.history → is_needed (state_of next) p ≡ true → payload_at next.payloads p ≡ payload_at w.payloads p
   pub outs : List LaneOut
   pub has : HasLanes first final (length lanes)
   pub block : IsBlock first final w.clock lanes outs

@@ -1,5 +1,5 @@
 -- How a script ends: the line of an opening that failed, and the last settling.
-use Rattle.std.specs.Prelude.{◌≡◌, ◌≢◌, ◌⊎◌, ℕ, true, false, List, [], ◌++◌, length}
+use Rattle.std.specs.Prelude.{◌≡◌, ◌≢◌, ◌⊎◌, ℕ, ◌≤◌, true, false, List, [], ◌++◌, length}
 use Rattle.delf_disk.specs.Areas.{Areas}
 use Rattle.delf_disk.specs.Causes.{Rose}
 use Rattle.store_laws.specs.Stores.{Settled}
@@ -65,6 +65,7 @@ pub record StaysDown (w : World) (start now : ℕ) (images : Areas → Type 0) :
 -- the settling met a disk fault
 pub record FallsAtEnd (w : World) (start now : ℕ) (images : Areas → Type 0) : Type 0 where
   pub up : w.down ≡ false
+  pub later : start ≤ now
   pub rose : Rose start now
   pub held : IsHeld w images
 
@@ -73,7 +74,7 @@ abbrev pub EndText : World → ℕ → ℕ → ℕ → (Areas → Type 0) → Li
 EndText w done start now images before after Done = Settles w start now images × (after ≡ before)
 EndText w done start now images before after (WriteFault n) =
     (n ≡ done) × FallsAtEnd w start now images × IsCut before after (down_text (length w.history))
-EndText w done start now images before after (OutOfMemory n) = (n ≡ done) × IsHeld w images × (after ≡ before)
+EndText w done start now images before after (OutOfMemory n) = (n ≡ done) × (start ≤ now) × IsHeld w images × (after ≡ before)
 EndText w done start now images before after (Down len) =
     (StaysDown w start now images × (len ≡ length w.history) × (after ≡ before))
     ⊎ (FallsAtEnd w start now images × (len ≡ length w.history) × (after ≡ before ++ down_text len))

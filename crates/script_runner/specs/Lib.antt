@@ -5,6 +5,7 @@ pub mod Codes
 pub mod Complete
 pub mod Endings
 pub mod Faults
+pub mod Headline
 pub mod Lines
 pub mod LoadEnds
 pub mod Names

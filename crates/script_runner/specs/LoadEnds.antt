@@ -1,5 +1,5 @@
 -- What a load leaves in the sink and on the disk: it puts one line, behind the last settling.
-use Rattle.std.specs.Prelude.{◌≡◌, ◌⊎◌, ℕ, List, ◌++◌, length, map}
+use Rattle.std.specs.Prelude.{◌≡◌, ◌⊎◌, ℕ, ◌≤◌, List, ◌++◌, length, map}
 use Rattle.delf_disk.specs.Areas.{Areas}
 use Rattle.delf_model.specs.declared.schema.Schema.{Schema}
 use Rattle.delf_model.specs.declared.script.Command.{Command}
@@ -31,7 +31,7 @@ LoadEndText n w start now images before after (WriteFault done) =
     (done ≡ 0)
     × ((Settles w start now images × IsCut before after (loaded_line n (state_of w)))
     ⊎ (StopsDown w start now images × IsCut before after (down_text (length w.history))))
-LoadEndText n w start now images before after (OutOfMemory done) = (done ≡ 0) × IsHeld w images × (after ≡ before)
+LoadEndText n w start now images before after (OutOfMemory done) = (done ≡ 0) × (start ≤ now) × IsHeld w images × (after ≡ before)
 LoadEndText n w start now images before after (Down len) = StopsDown w start now images × (len ≡ length w.history) × (after ≡ before ++ down_text len)
 LoadEndText n w start now images before after status = ⊥
 
@@ -43,8 +43,8 @@ PutsLine line before after (OutOfMemory done) = (done ≡ 0) × (after ≡ befor
 PutsLine line before after status = ⊥
 
 -- memory was wanting in some command
-abbrev pub StarvesAmong : Schema → World → List Command → ℕ → (Areas → Type 0) → Type 0
-StarvesAmong schema first commands start images = (made : ℕ) × Starves schema first commands start images made
+abbrev pub StarvesAmong : Schema → World → List Command → ℕ → ℕ → (Areas → Type 0) → Type 0
+StarvesAmong schema first commands start now images = (made : ℕ) × Starves schema first commands start now images made
 
 -- a load: its commands were made, their lines not put, and the store was settled
 pub record LoadRan (n : ℕ) (schema : Schema) (first : World) (commands : List Command) (start now : ℕ) (images : Areas → Type 0) (before after : List ℕ)
@@ -56,7 +56,7 @@ pub record LoadRan (n : ℕ) (schema : Schema) (first : World) (commands : List 
 -- sink and disk after the commands of a load from a world on
 abbrev pub LoadScriptText : ℕ → Schema → World → List Command → ℕ → ℕ → (Areas → Type 0) → List ℕ → List ℕ → Status → Type 0
 LoadScriptText n schema first commands start now images before after (OutOfMemory done) =
-    ((done ≡ 0) × (after ≡ before) × StarvesAmong schema first commands start images)
+    ((done ≡ 0) × (after ≡ before) × StarvesAmong schema first commands start now images)
     ⊎ LoadRan n schema first commands start now images before after (OutOfMemory done)
 LoadScriptText n schema first commands start now images before after status = LoadRan n schema first commands start now images before after status
 

@@ -1,5 +1,5 @@
 -- What a run leaves in the sink and on the disk, and why it ended, by its status.
-use Rattle.std.specs.Prelude.{◌≡◌, ℕ, ◌+◌, ◌<◌, Bool, true, false, IsTrue, Option, Some, None, List, [], ◌∷◌, ◌++◌, ◌⊎◌, length, take, slice_get, codes}
+use Rattle.std.specs.Prelude.{◌≡◌, ℕ, ◌+◌, ◌<◌, ◌≤◌, Bool, true, false, IsTrue, Option, Some, None, List, [], ◌∷◌, ◌++◌, ◌⊎◌, length, take, slice_get, codes}
 use Rattle.delf_disk.specs.declared.area.Area.{Area}
 use Rattle.delf_disk.specs.declared.area.Area.TheVariants.{Journal, Vault}
 use Rattle.delf_disk.specs.declared.area.Order.{Order}
@@ -9,7 +9,7 @@ use Rattle.delf_io.specs.Faults.{next_count}
 use Rattle.delf_model.specs.declared.entry.Entry.{Entry}
 use Rattle.delf_model.specs.declared.schema.Schema.{Schema}
 use Rattle.delf_model.specs.declared.script.Command.{Command}
-use Rattle.delf_model.specs.declared.script.Command.TheVariants.{Crash}
+use Rattle.delf_model.specs.declared.script.Command.TheVariants.{Report, Crash}
 use Rattle.delf_model.specs.RuleSet.{RuleSet}
 use Rattle.delf_model.specs.Legal.{Legal}
 use Rattle.delf_model.specs.Payloads.{Payloads}
@@ -61,28 +61,34 @@ pub record IsWhole (schema : Schema) (first : World) (commands : List Command) (
   pub settled : (c : Areas) → images c → Settled ran.last.rules ran.last.history c
   pub rests : RestIn ran.last.rules ran.last.history ran.last.payloads images
 
+-- behind a report, while the world is up, every image is the settled store
+abbrev pub SettlesAll : Command → World → (Areas → Type 0) → Type 0
+SettlesAll command w images = command ≡ Report → w.down ≡ false → (c : Areas) → images c → Settled w.rules w.history c
+
 -- the sink failed in the lines of the command numbered `done`, or where its opening, or the last settling, met a disk fault, in
 -- the line of that fault
 pub data IsCutScript (schema : Schema) (first : World) (commands : List Command) (start now : ℕ) (images : Areas → Type 0) (before after : List ℕ) (done : ℕ) : Type 0 where
   InLines : (ran : Ran schema first (take done commands) start) (command : Command) (line : List ℕ) (next : World) → slice_get commands done ≡ Some command →
       Serves schema ran.last command ran.now now line next → IsCut (before ++ ran.text) after line → IsHeld next images →
-      IsCutScript schema first commands start now images before after done
+      SettlesAll command next images → IsCutScript schema first commands start now images before after done
   InOpening : (ran : Ran schema first (take done commands) start) (pick : ℕ) → slice_get commands done ≡ Some (Crash pick) → Rose ran.now now →
       IsCut (before ++ ran.text) after (down_text 0) → IsHeld ran.last images → IsCutScript schema first commands start now images before after done
   InSettling : (ran : Ran schema first commands start) → done ≡ length commands → ran.last.down ≡ false → Rose ran.now now →
       IsCut (before ++ ran.text) after (down_text (length ran.last.history)) → IsHeld ran.last images →
       IsCutScript schema first commands start now images before after done
 
--- the first `done` commands were made, and the disk stands for the world after them, or for it with some of the next one
-pub record Starves (schema : Schema) (first : World) (commands : List Command) (start : ℕ) (images : Areas → Type 0) (done : ℕ) : Type 0 where
+-- the first `done` commands were made, by faults that the disk's count tells, and the disk stands for the world after them, or
+-- for it with some of the next one
+pub record Starves (schema : Schema) (first : World) (commands : List Command) (start now : ℕ) (images : Areas → Type 0) (done : ℕ) : Type 0 where
   pub ran : Ran schema first (take done commands) start
+  pub count : ran.now ≤ now
   pub next : World
   pub halts : (next ≡ ran.last) ⊎ ((command : Command) × ((slice_get commands done ≡ Some command) × Halts command ran.last next))
   pub held : IsHeld next images
 
 -- memory was wanting after the first `done` commands, whose lines were put
-pub record IsStarved (schema : Schema) (first : World) (commands : List Command) (start : ℕ) (images : Areas → Type 0) (before after : List ℕ) (done : ℕ) : Type 0 where
-  pub starves : Starves schema first commands start images done
+pub record IsStarved (schema : Schema) (first : World) (commands : List Command) (start now : ℕ) (images : Areas → Type 0) (before after : List ℕ) (done : ℕ) : Type 0 where
+  pub starves : Starves schema first commands start now images done
   pub text : after ≡ before ++ starves.ran.text
 
 -- the store was down after all commands, or the last settling or an opening met a disk fault
@@ -101,7 +107,7 @@ ScriptText schema first commands start now images before after Usage = ⊥
 ScriptText schema first commands start now images before after (BadDocument line) = ⊥
 ScriptText schema first commands start now images before after ReadFault = ⊥
 ScriptText schema first commands start now images before after (WriteFault done) = IsCutScript schema first commands start now images before after done
-ScriptText schema first commands start now images before after (OutOfMemory done) = IsStarved schema first commands start images before after done
+ScriptText schema first commands start now images before after (OutOfMemory done) = IsStarved schema first commands start now images before after done
 ScriptText schema first commands start now images before after (Down len) = IsDown schema first commands start now images before after len
 ScriptText schema first commands start now images before after (BadStore area at) = ⊥
 
@@ -154,16 +160,16 @@ DocumentText document moment seen first start now images before after status =
     OpenedText document.rules moment seen first start now images before after
     (λ w it. ScriptText document.schema w document.commands start now images before after it) status
 
--- the sink after bytes were read, by the status; `runs` is said of an accepted document
-abbrev pub BytesText : Bool → List ℕ → (Document → Status → Type 0) → List ℕ → List ℕ → Status → Type 0
-BytesText blocks bytes runs before after Usage = ⊥
-BytesText blocks bytes runs before after (BadDocument line) = TellsFault blocks bytes line before after
-BytesText blocks bytes runs before after ReadFault = ⊥
-BytesText blocks bytes runs before after (WriteFault done) =
-    CutsFault blocks bytes before after done ⊎ OfDocument blocks bytes (λ document. runs document (WriteFault done))
-BytesText blocks bytes runs before after (OutOfMemory done) =
-    ((done ≡ 0) × (after ≡ before)) ⊎ OfDocument blocks bytes (λ document. runs document (OutOfMemory done))
-BytesText blocks bytes runs before after status = OfDocument blocks bytes (λ document. runs document status)
+-- the sink after bytes were read, by the status; `same` says that the disk is as it came in, and `runs` is said of an accepted document
+abbrev pub BytesText : Bool → List ℕ → Type 0 → (Document → Status → Type 0) → List ℕ → List ℕ → Status → Type 0
+BytesText blocks bytes same runs before after Usage = ⊥
+BytesText blocks bytes same runs before after (BadDocument line) = TellsFault blocks bytes line before after
+BytesText blocks bytes same runs before after ReadFault = ⊥
+BytesText blocks bytes same runs before after (WriteFault done) =
+    (CutsFault blocks bytes before after done × same) ⊎ OfDocument blocks bytes (λ document. runs document (WriteFault done))
+BytesText blocks bytes same runs before after (OutOfMemory done) =
+    ((done ≡ 0) × (after ≡ before) × same) ⊎ OfDocument blocks bytes (λ document. runs document (OutOfMemory done))
+BytesText blocks bytes same runs before after status = OfDocument blocks bytes (λ document. runs document status)
 
 -- the sink after the words were no command
 abbrev pub UsageText : List ℕ → List ℕ → Status → Type 0
@@ -177,23 +183,26 @@ UsageText before after (Down len) = ⊥
 UsageText before after (BadStore area at) = ⊥
 
 -- the sink after a source was to be read; where it tells its bytes, the document is all that it had left
-abbrev pub SourceText : Bool → Bool → List ℕ → (Document → Status → Type 0) → List ℕ → List ℕ → Status → Type 0
-SourceText blocks told left runs before after Usage = ⊥
-SourceText blocks told left runs before after ReadFault = after ≡ before
-SourceText blocks told left runs before after status = IsTrue told → BytesText blocks left runs before after status
+abbrev pub SourceText : Bool → Bool → List ℕ → Type 0 → (Document → Status → Type 0) → List ℕ → List ℕ → Status → Type 0
+SourceText blocks told left same runs before after Usage = ⊥
+SourceText blocks told left same runs before after ReadFault = after ≡ before
+SourceText blocks told left same runs before after status = IsTrue told → BytesText blocks left same runs before after status
 
 -- the sink after a load; memory may be wanting before its document is made
-abbrev pub LoadedText : Bool → ℕ → (Document → Status → Type 0) → List ℕ → List ℕ → Status → Type 0
-LoadedText blocks n loads before after (OutOfMemory done) = ((done ≡ 0) × (after ≡ before)) ⊎ OfLoad blocks n (λ document. loads document (OutOfMemory done))
-LoadedText blocks n loads before after status = OfLoad blocks n (λ document. loads document status)
+abbrev pub LoadedText : Bool → ℕ → Type 0 → (Document → Status → Type 0) → List ℕ → List ℕ → Status → Type 0
+LoadedText blocks n same loads before after (OutOfMemory done) =
+    ((done ≡ 0) × (after ≡ before) × same) ⊎ OfLoad blocks n (λ document. loads document (OutOfMemory done))
+LoadedText blocks n same loads before after status = OfLoad blocks n (λ document. loads document status)
 
--- the sink after a run, by what its words ask for, if they are a command, and the clock's last answer; `runs` is said of a document
--- that was read, and `loads` of one that a load makes
-abbrev pub RunText : Bool → Option Request → ℕ → Bool → List ℕ → (ℕ → Document → Status → Type 0) → (ℕ → ℕ → Document → Status → Type 0) → List ℕ → List ℕ → Status → Type 0
-RunText blocks None answer told left runs loads before after status = UsageText before after status
-RunText blocks (Some (Run start)) answer told left runs loads before after status = SourceText blocks told left (runs (moment_of_start start answer)) before after status
-RunText blocks (Some Check) answer told left runs loads before after status = CheckText blocks told left before after status
-RunText blocks (Some (Load n)) answer told left runs loads before after status = LoadedText blocks n (loads n answer) before after status
+-- the sink after a run, by what its words ask for, if they are a command, and the clock's last answer; `same` says that the disk is
+-- as it came in, `runs` is said of a document that was read, and `loads` of one that a load makes
+abbrev pub RunText : Bool → Option Request → ℕ → Bool → List ℕ → Type 0 → (ℕ → Document → Status → Type 0) → (ℕ → ℕ → Document → Status → Type 0) → List ℕ → List ℕ →
+    Status → Type 0
+RunText blocks None answer told left same runs loads before after status = UsageText before after status
+RunText blocks (Some (Run start)) answer told left same runs loads before after status =
+    SourceText blocks told left same (runs (moment_of_start start answer)) before after status
+RunText blocks (Some Check) answer told left same runs loads before after status = CheckText blocks told left before after status
+RunText blocks (Some (Load n)) answer told left same runs loads before after status = LoadedText blocks n same (loads n answer) before after status
 
 -- why commands ended so
 abbrev pub ScriptCause : Type 0 → Type 0 → (Area → ℕ → Type 0) → Status → Type 0

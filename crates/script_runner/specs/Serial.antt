@@ -214,18 +214,20 @@ Script schema w (command ∷ more) before now text next =
 
 -- where want of memory may leave a command: the world as it was, with some of the entries of the command, or with one beside it
 
+-- of a world that is up
+
 abbrev pub HaltsCall : World → Call → World → Type 0
 HaltsCall w asked next =
-    (what : What) × ((answer w asked ≡ Ok what)
-    × ((next ≡ with_entry w what (given_by asked)) ⊎ (next ≡ fallen w (Some (interrupted w what (given_by asked))))))
+    (w.down ≡ false) × ((what : What) × ((answer w asked ≡ Ok what)
+    × ((next ≡ with_entry w what (given_by asked)) ⊎ (next ≡ fallen w (Some (interrupted w what (given_by asked)))))))
 
 abbrev pub HaltsWork : ℕ → World → World → Type 0
 HaltsWork n w next =
-    (made : ℕ) × ((here : World) × ((made ≤ n) × MakesSteps made w here
-    × ((next ≡ here) ⊎ ((what : What) × ((next_step here ≡ Some what) × (next ≡ fallen here (Some (interrupted here what []))))))))
+    (w.down ≡ false) × ((made : ℕ) × ((here : World) × ((made ≤ n) × MakesSteps made w here
+    × ((next ≡ here) ⊎ ((what : What) × ((next_step here ≡ Some what) × (next ≡ fallen here (Some (interrupted here what [])))))))))
 
 abbrev pub Halts : Command → World → World → Type 0
 Halts (Submit asked) w next = (next ≡ w) ⊎ HaltsCall w asked next
-Halts (Work n) w next = HaltsWork n w next
+Halts (Work n) w next = (next ≡ w) ⊎ HaltsWork n w next
 Halts (Par quiet workers turns lanes) w next = (next ≡ w) ⊎ LeavesLanes w lanes next
 Halts other w next = next ≡ w

@@ -1,5 +1,5 @@
 -- What a command makes of a book and its disk, said of the world that they hold.
-use Rattle.std.specs.Prelude.{◌≡◌, ◌⊎◌, ℕ, ◌≤◌, true, List, Result, Ok, Err}
+use Rattle.std.specs.Prelude.{◌≡◌, ◌⊎◌, ℕ, ◌≤◌, true, false, List, Result, Ok, Err}
 use Rattle.delf_disk.specs.Areas.{Areas}
 use Rattle.delf_disk.specs.Causes.{Rose}
 use Rattle.delf_model.specs.declared.schema.Schema.{Schema}
@@ -7,6 +7,7 @@ use Rattle.delf_model.specs.declared.script.Command.{Command}
 use Rattle.delf_model.specs.declared.script.Command.TheVariants.{Crash, Par}
 use Rattle.delf_model.specs.Payloads.{Payloads}
 use Rattle.delf_book.specs.Books.{Booked}
+use Rattle.store_laws.specs.Stores.{Settled}
 use Rattle.script_runner.specs.Worlds.{World, StandsOn, IsHeld, world_of}
 use Rattle.job_report.specs.declared.work.WorkEnd.{WorkEnd}
 use Rattle.job_report.specs.Texts.{down_text}
@@ -75,6 +76,10 @@ abbrev pub LineSaid : Result (List ℕ) LineFault → List ℕ → Type 0
 LineSaid (Ok line) text = text ≡ line
 LineSaid (Err OutOfMemory) text = ⊥
 LineSaid (Err (Failed len)) text = text ≡ down_text len
+
+-- while the book is up every image is its settled store
+abbrev pub HasSettled : {G R : Type 0} → (R → Areas → Type 0) → Booked G R → Type 0
+HasSettled may_leave book = book.down ≡ false → (c : Areas) → may_leave book.rig c → Settled book.rules book.history c
 
 -- a command that keeps the store open
 abbrev pub IsOpen : Command → Type 0

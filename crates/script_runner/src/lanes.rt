@@ -3,15 +3,15 @@ ghost use Rattle.std.specs.Prelude.{◌≡◌, ◌+◌, ◌≤◌, true, false, 
 ghost use Rattle.std.specs.List.{filter};
 ghost use Rattle.std.specs.Result.{ForOk};
 ghost use Rattle.delf_disk.specs.Plain.{Plain, SameTelling, SameKind};
-ghost use Rattle.delf_model.specs.declared.script.Command.TheVariants.{Par};
+ghost use Rattle.delf_model.specs.declared.script.Command.TheVariants.{Report, Par};
 ghost use Rattle.delf_service.specs.Lanes.{IsStarved};
 ghost use Rattle.delf_model.specs.Payloads.{Payloads};
 ghost use Rattle.job_report.specs.Texts.{lane_text};
 ghost use Rattle.documents.specs.Names.{HasNames, HasNoLanes, IsNumberedBlock, IsNumberedCommand};
-ghost use Rattle.script_runner.specs.Blocks.{IsRunner, AreFed, HasOnlyFed, is_accepted, is_refused, replies_of, answer_line as answer_line_of, read_line, reply_line as reply_line_of, lane_lines as lane_lines_of, lanes_lines as lanes_lines_of, block_lines as block_lines_of};
+ghost use Rattle.script_runner.specs.Blocks.{IsRunner, MayRun, RunsInto, AreFed, HasOnlyFed, is_accepted, is_refused, replies_of, answer_line as answer_line_of, read_line, reply_line as reply_line_of, lane_lines as lane_lines_of, lanes_lines as lanes_lines_of, block_lines as block_lines_of};
 ghost use Rattle.script_runner.specs.Names.{AreNumberedOuts, AreNumberedReplies, IsNumberedReply, IsNumberedAnswer, IsNumberedAsked};
 ghost use Rattle.script_runner.specs.Orders.{Gives};
-ghost use Rattle.script_runner.specs.Standing.{Falls, Carries, Halted, IsOpen};
+ghost use Rattle.script_runner.specs.Standing.{Falls, Carries, Halted, HasSettled, IsOpen};
 
 use crate::answers::{accepted_line, refused_line};
 use crate::blocks::{Blocks, Outs};
@@ -45,6 +45,8 @@ pub(crate) fn serve<R: Rig, B: Blocks<Store<R>, Outs>>(
         → Carries R.Disk.may_leave R.Disk.faults schema.now command.now store.book result.0.book store.clock result.0.clock e text) }
     ensures halts { OnErr result.1 (Plain (R.Disk.told store.book.rig) (R.Disk.honest store.book.rig) → (e : Payloads)
         → Halted R.Disk.may_leave command.now store.book store.clock e result.0.book.rig) }
+    ensures settles { IfOk result.1 (λ text. Plain (R.Disk.told store.book.rig) (R.Disk.honest store.book.rig)
+        → command.now ≡ Report → HasSettled R.Disk.may_leave result.0.book) }
     ensures telling { SameTelling R.Disk.told R.Disk.honest store.book.rig result.0.book.rig }
     ensures orders { Gives command.now (R.Disk.order store.book.rig) (R.Disk.orders store.book.rig) (R.Disk.order result.0.book.rig) (R.Disk.orders result.0.book.rig) }
     ensures cause { Falls R.Disk.faults store.book result.0.book }
@@ -101,12 +103,31 @@ fn run_block<R: Rig, B: Blocks<Store<R>, Outs>>(
         return (store, line);
     }
     store.book.standing();
-    let (store, outs) = blocks.run(store, lanes, workers, turns);
+    let (store, outs) = run_over(blocks, store, lanes, workers, turns);
     store.book.standing();
     let after = store.book.len();
     let down = store.book.is_down();
     let lines = lines_of(alloc, schema, quiet, lanes, outs, after, down);
     (store, lines)
+}
+
+// Runs the lanes of a block over a store, lent in a slot.
+fn run_over<R: Rig, B: Blocks<Store<R>, Outs>>(
+    blocks: &B,
+    store: Store<R>,
+    lanes: &[Lane],
+    workers: u8,
+    turns: u32,
+) -> (Store<R>, Outs)
+    requires served { B.served ≡ true }
+    requires may { MayRun store.book.rules workers lanes.now }
+    requires ready { IsRunner B.served R.Disk (λ store. store.book) (λ store. store.clock) (λ v. v.items) (B.may blocks.now) (B.ran blocks.now) }
+    ensures { RunsInto R.Disk (λ store. store.book) (λ store. store.clock) (λ v. v.items) store lanes.now result.1 result.0 }
+{
+    let mut slot = Some(store);
+    let outs = blocks.run(&mut slot, lanes, workers, turns);
+    let Some(store) = slot else { unreachable!() };
+    (store, outs)
 }
 
 // The lines of a block whose lanes were run.

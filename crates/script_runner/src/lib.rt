@@ -18,5 +18,5 @@ mod status;
 mod store;
 
 pub use graph::{ProgramBook, ProgramGraph};
-pub use program::run_plain;
+pub use program::{run, run_plain};
 pub use status::Status;

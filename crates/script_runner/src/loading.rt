@@ -49,7 +49,7 @@ pub(crate) fn run_load<K: Sink, R: Rig, C: Clock, B: Blocks<Store<R>, Outs>>(
     requires ready { IsRunner B.served R.Disk (λ store. store.book) (λ store. store.clock) (λ v. v.items) (B.may blocks.now) (B.ran blocks.now) }
     ensures cause { LoadCause (Rose (K.faults sink.old) (K.faults sink.new)) (DiskRose (R.Disk.faults rig) (R.Disk.faults result.1))
         (λ area at. OfLoad B.served n (λ document. Plain (R.Disk.told rig) (R.Disk.honest rig) → IsBad document.rules (R.Disk.seen rig) area at)) result.0 }
-    ensures text { IsTrue (K.told sink.old) → LoadedText B.served n (λ document status. Plain (R.Disk.told rig) (R.Disk.honest rig)
+    ensures text { IsTrue (K.told sink.old) → LoadedText B.served n (result.1 ≡ rig) (λ document status. Plain (R.Disk.told rig) (R.Disk.honest rig)
         → LoadText n document (C.last_answer clock.new) (R.Disk.seen rig) (R.Disk.may_leave rig)
         (R.Disk.faults rig) (R.Disk.faults result.1) (R.Disk.may_leave result.1) (K.held sink.old) (K.held sink.new) status)
         (K.held sink.old) (K.held sink.new) result.0 }
@@ -158,7 +158,7 @@ fn make_all<R: Rig, B: Blocks<Store<R>, Outs>>(
         → Leads R.Disk.may_leave R.Disk.faults schema.now (world_of store.book store.clock e) commands.now (R.Disk.faults store.book.rig) result.0.book result.0.clock) }
     ensures starves { OnErr result.1 (Plain (R.Disk.told store.book.rig) (R.Disk.honest store.book.rig) → (e : Payloads)
         → StandsOn (world_of store.book store.clock e) (R.Disk.may_leave store.book.rig)
-        → StarvesAmong schema.now (world_of store.book store.clock e) commands.now (R.Disk.faults store.book.rig) (R.Disk.may_leave result.0.book.rig)) }
+        → StarvesAmong schema.now (world_of store.book store.clock e) commands.now (R.Disk.faults store.book.rig) (R.Disk.faults result.0.book.rig) (R.Disk.may_leave result.0.book.rig)) }
     ensures kind { SameKind R.Disk.told R.Disk.honest R.Disk.order R.Disk.orders store.book.rig result.0.book.rig }
     ensures cause { Falls R.Disk.faults store.book result.0.book }
 {

@@ -1,18 +1,21 @@
 //! A run: the words, the source, the store, its commands one by one, and the last settling.
-ghost use Rattle.std.specs.Prelude.{◌≡◌, ◌++◌, ◌⊎◌, ◌<◌, ◌≤◌, ◌^◌, ℕ, List, Some, true, false, IsTrue, IfOk, IfErr, map, length, string_bytes, []};
+ghost use Rattle.std.specs.Prelude.{◌≡◌, ◌++◌, ◌⊎◌, ◌<◌, ◌≤◌, ◌^◌, ℕ, List, Some, true, false, IsTrue, IfOk, IfErr, IfSome, IsSomeAnd, map, length, string_bytes, []};
 ghost use Rattle.std.specs.List.{All};
 ghost use Rattle.delf_disk.specs.Causes.{Rose as DiskRose};
 ghost use Rattle.delf_disk.specs.Plain.{Plain, SameKind, SameTelling};
 ghost use Rattle.delf_io.specs.Faults.{Rose};
 ghost use Rattle.delf_recovery.specs.declared.fault.OpenFault.TheVariants.{OutOfMemory};
 ghost use Rattle.delf_model.specs.Checked.{IsSpellable, numbered};
+ghost use Rattle.delf_model.specs.declared.script.Command.TheVariants.{Report};
 ghost use Rattle.delf_model.specs.Legal.{Legal};
 ghost use Rattle.delf_model.specs.Sound.{Sound};
 ghost use Rattle.job_report.specs.Texts.{opened_text};
 ghost use Rattle.delf_model.specs.Payloads.{Payloads};
-ghost use Rattle.script_runner.specs.Blocks.{IsRunner};
+ghost use denote.Param.Send.{IsSend, IsSync};
+ghost use Rattle.script_runner.specs.Blocks.{IsRunner, MayRun, RunsInto};
 ghost use Rattle.script_runner.specs.Complete.{IsQuiet, IsStore, EndsWell};
 ghost use Rattle.script_runner.specs.Endings.{UnopenedText, UnopenedCause, DownText, DownCause, EndText, EndCause};
+ghost use Rattle.script_runner.specs.Headline.{Headline};
 ghost use Rattle.script_runner.specs.LoadEnds.{LoadText};
 ghost use Rattle.script_runner.specs.Openings.{MayGive, StopCounts, Stops};
 ghost use Rattle.script_runner.specs.Orders.{Gives};
@@ -20,10 +23,10 @@ ghost use Rattle.documents.specs.Requests.{request_of, moment_of_start};
 ghost use Rattle.documents.specs.Names.{HasNames, IsNumberedCommand, HasNoLanes};
 ghost use Rattle.script_runner.specs.Outcomes.{RunText, RunCause, UsageText, UsageCause, SourceText, SourceCause, BytesText, BytesCause, DocumentText, ScriptText, ScriptCause, Untouched, UntouchedBy, UnreadBy, ReadsAll, ReadsAllBy, OrdersOf, OrdersBy, OrdersMade, IsBad, bad_text, Asks, AsksFor};
 ghost use Rattle.script_runner.specs.Faults.{FaultText, FaultCause};
-ghost use Rattle.script_runner.specs.Standing.{Falls, Carries};
+ghost use Rattle.script_runner.specs.Standing.{Falls, Carries, HasSettled};
 ghost use Rattle.script_runner.specs.Worlds.{StandsOn, world_of};
 
-use crate::blocks::{Blocks, NoBlocks, Outs};
+use crate::blocks::{Blocks, NoBlocks, Outs, RunBy};
 use crate::check::check_source;
 use crate::graph::ProgramBook;
 use crate::lanes::serve;
@@ -33,8 +36,9 @@ use crate::store::{Store, crash};
 use delf_book::BookFault;
 use delf_disk::{Area, Rig};
 use delf_io::{Clock, Sink, Source};
-use delf_model::{Bytes, Command, GREATEST_MOMENT, Moment, Schema};
+use delf_model::{Bytes, Command, GREATEST_MOMENT, Lane, Moment, Schema};
 use delf_recovery::OpenFault;
+use delf_service::{Gate, run_lanes};
 use documents::{
     Document, READ_LIMIT, ReadError, Request, Start, put_all, read_at_most, read_document,
     read_words,
@@ -42,6 +46,8 @@ use documents::{
 use job_report::{bad_journal_line, bad_vault_line, down_line, fault_line, opened_line};
 use script_lang::DocumentFault;
 use std::alloc::{AllocError, Global};
+use std::sync::Wait;
+use std::thread::Threads;
 
 /// Runs the program with these words. `run` reads a document from `source`, opens the store on `rig`, makes the commands, and
 /// puts their lines to `sink`; the moment of the start is the one that the words give, or the clock's answer, which is asked
@@ -56,6 +62,22 @@ pub fn run_plain<S: Source, K: Sink, R: Rig, C: Clock>(
     rig: R,
     clock: &mut C,
 ) -> (Status, R)
+    // What it comes to, row by row of its status.
+    ensures headline { IsTrue (S.told source.old) → IsTrue (K.told sink.old) → Plain (R.Disk.told rig) (R.Disk.honest rig) → Headline (record {
+      blocks = false;
+      request = request_of (map string_bytes words.now);
+      answer = C.last_answer clock.new;
+      left = S.left source.old;
+      before = K.held sink.old;
+      after = K.held sink.new;
+      seen = R.Disk.seen rig;
+      old_images = R.Disk.may_leave rig;
+      images = R.Disk.may_leave result.1;
+      start = R.Disk.faults rig;
+      now = R.Disk.faults result.1;
+      untouched = result.1 ≡ rig;
+    }) result.0 }
+
     // Why it ended so, and what it put and left on the disk.
     ensures cause { RunCause false (request_of (map string_bytes words.now)) (S.told source.old) (S.left source.old)
         (Rose (S.faults source.old) (S.faults source.new)) (Rose (K.faults sink.old) (K.faults sink.new)) (DiskRose (R.Disk.faults rig) (R.Disk.faults result.1))
@@ -64,7 +86,7 @@ pub fn run_plain<S: Source, K: Sink, R: Rig, C: Clock>(
         → EndsWell false (request_of (map string_bytes words.now)) (S.told source.old) (S.left source.old)
         (λ rules. Plain (R.Disk.told rig) (R.Disk.honest rig) × IsStore rules (R.Disk.seen rig)) result.0 }
     ensures text { IsTrue (K.told sink.old) → RunText false (request_of (map string_bytes words.now)) (C.last_answer clock.new)
-        (S.told source.old) (S.left source.old) (λ moment document status. Plain (R.Disk.told rig) (R.Disk.honest rig) → DocumentText document moment (R.Disk.seen rig) (R.Disk.may_leave rig)
+        (S.told source.old) (S.left source.old) (result.1 ≡ rig) (λ moment document status. Plain (R.Disk.told rig) (R.Disk.honest rig) → DocumentText document moment (R.Disk.seen rig) (R.Disk.may_leave rig)
         (R.Disk.faults rig) (R.Disk.faults result.1) (R.Disk.may_leave result.1) (K.held sink.old) (K.held sink.new) status)
         (λ n moment document status. Plain (R.Disk.told rig) (R.Disk.honest rig) → LoadText n document moment (R.Disk.seen rig) (R.Disk.may_leave rig)
         (R.Disk.faults rig) (R.Disk.faults result.1) (R.Disk.may_leave result.1) (K.held sink.old) (K.held sink.new) status)
@@ -88,6 +110,122 @@ pub fn run_plain<S: Source, K: Sink, R: Rig, C: Clock>(
     run_words(alloc, &NoBlocks, words, source, sink, rig, clock)
 }
 
+/// The same, where scripts may have blocks of lanes, which run on threads, a lane each, and tell the gate of their entries. A
+/// load makes its script's block so. It may wait.
+pub fn run<W: Threads + Wait + Sync, S: Source, K: Sink, R: Rig + Send, C: Clock, Q: Gate + Sync>(
+    rt: &W,
+    alloc: Global,
+    words: &[String],
+    source: &mut S,
+    sink: &mut K,
+    rig: R,
+    clock: &mut C,
+    gate: &Q,
+) -> (Status, R)
+    // What it comes to, row by row of its status.
+    ensures headline { IsTrue (S.told source.old) → IsTrue (K.told sink.old) → Plain (R.Disk.told rig) (R.Disk.honest rig) → Headline (record {
+      blocks = true;
+      request = request_of (map string_bytes words.now);
+      answer = C.last_answer clock.new;
+      left = S.left source.old;
+      before = K.held sink.old;
+      after = K.held sink.new;
+      seen = R.Disk.seen rig;
+      old_images = R.Disk.may_leave rig;
+      images = R.Disk.may_leave result.1;
+      start = R.Disk.faults rig;
+      now = R.Disk.faults result.1;
+      untouched = result.1 ≡ rig;
+    }) result.0 }
+
+    // Why it ended so, and what it put and left on the disk.
+    ensures cause { RunCause true (request_of (map string_bytes words.now)) (S.told source.old) (S.left source.old)
+        (Rose (S.faults source.old) (S.faults source.new)) (Rose (K.faults sink.old) (K.faults sink.new)) (DiskRose (R.Disk.faults rig) (R.Disk.faults result.1))
+        (λ rules area at. Plain (R.Disk.told rig) (R.Disk.honest rig) → IsBad rules (R.Disk.seen rig) area at) result.0 }
+    ensures complete { IsQuiet (Rose (S.faults source.old) (S.faults source.new)) (Rose (K.faults sink.old) (K.faults sink.new)) (DiskRose (R.Disk.faults rig) (R.Disk.faults result.1))
+        → EndsWell true (request_of (map string_bytes words.now)) (S.told source.old) (S.left source.old)
+        (λ rules. Plain (R.Disk.told rig) (R.Disk.honest rig) × IsStore rules (R.Disk.seen rig)) result.0 }
+    ensures text { IsTrue (K.told sink.old) → RunText true (request_of (map string_bytes words.now)) (C.last_answer clock.new)
+        (S.told source.old) (S.left source.old) (result.1 ≡ rig) (λ moment document status. Plain (R.Disk.told rig) (R.Disk.honest rig) → DocumentText document moment (R.Disk.seen rig) (R.Disk.may_leave rig)
+        (R.Disk.faults rig) (R.Disk.faults result.1) (R.Disk.may_leave result.1) (K.held sink.old) (K.held sink.new) status)
+        (λ n moment document status. Plain (R.Disk.told rig) (R.Disk.honest rig) → LoadText n document moment (R.Disk.seen rig) (R.Disk.may_leave rig)
+        (R.Disk.faults rig) (R.Disk.faults result.1) (R.Disk.may_leave result.1) (K.held sink.old) (K.held sink.new) status)
+        (K.held sink.old) (K.held sink.new) result.0 }
+
+    // What it leaves.
+    ensures read { IsTrue (S.told source.old) → (read : List ℕ) × (length read ≤ 16777217)
+        × (S.left source.old ≡ read ++ S.left source.new) }
+    ensures whole { IsTrue (S.told source.old) → ReadsAllBy (request_of (map string_bytes words.now)) (S.left source.old) (S.left source.new) result.0 }
+    ensures unread { UnreadBy (request_of (map string_bytes words.now)) (source.new ≡ source.old) }
+    ensures same_source { S.told source.new ≡ S.told source.old }
+    ensures same_sink { K.told sink.new ≡ K.told sink.old }
+    ensures sink_faults { K.faults sink.old ≤ K.faults sink.new }
+    ensures telling { SameTelling R.Disk.told R.Disk.honest rig result.1 }
+    ensures rig_faults { R.Disk.faults rig ≤ R.Disk.faults result.1 }
+    ensures source_faults { S.faults source.old ≤ S.faults source.new }
+    ensures untouched { UntouchedBy (request_of (map string_bytes words.now)) (result.1 ≡ rig) result.0 }
+    ensures orders { OrdersBy true (request_of (map string_bytes words.now)) (S.told source.old) (S.left source.old) (R.Disk.order rig) (R.Disk.orders rig) (R.Disk.order result.1) (R.Disk.orders result.1) result.0 }
+    ensures asked { Asks (request_of (map string_bytes words.now)) result.0 (C.times_asked clock.old) (C.times_asked clock.new) }
+{
+    run_words(
+        alloc,
+        &RunBy {
+            rt,
+            alloc,
+            gate,
+            run: run_slot::<W, R, Q>,
+        },
+        words,
+        source,
+        sink,
+        rig,
+        clock,
+    )
+}
+
+// Runs the lanes of a block over the store in a slot.
+fn run_slot<W: Threads + Wait + Sync, R: Rig + Send, Q: Gate + Sync>(
+    rt: &W,
+    alloc: Global,
+    gate: &Q,
+    slot: &mut Option<Store<R>>,
+    lanes: &[Lane],
+    workers: u8,
+    turns: u32,
+) -> Outs
+    // A function that is handed on by name states what its bounds ask.
+    requires bounds { IsSync W.row × IsSync Q.row × IsSend R.row }
+    requires may { IsSomeAnd slot.old (λ store. MayRun store.book.rules workers lanes.now) }
+    ensures { IfSome slot.old (λ store. IsSomeAnd slot.new (RunsInto R.Disk (λ it. it.book) (λ it. it.clock) (λ v. v.items) store lanes.now result)) }
+{
+    let Some(store) = slot.take() else {
+        unreachable!()
+    };
+    let (store, outs) = run_store(rt, alloc, gate, store, lanes, workers, turns);
+    match slot.replace(store) {
+        None => outs,
+        Some(_) => unreachable!(),
+    }
+}
+
+// Runs the lanes of a block over a store.
+fn run_store<W: Threads + Wait + Sync, R: Rig + Send, Q: Gate + Sync>(
+    rt: &W,
+    alloc: Global,
+    gate: &Q,
+    store: Store<R>,
+    lanes: &[Lane],
+    workers: u8,
+    turns: u32,
+) -> (Store<R>, Outs)
+    requires { MayRun store.book.rules workers lanes.now }
+    ensures { RunsInto R.Disk (λ it. it.book) (λ it. it.clock) (λ v. v.items) store lanes.now result.1 result.0 }
+{
+    let Store { book, clock } = store;
+    let (book, outs) = run_lanes(rt, alloc, book, clock, lanes, workers, turns, gate);
+    (Store { book, clock }, outs)
+}
+
 // The same, by what runs the lanes of a block.
 fn run_words<S: Source, K: Sink, R: Rig, C: Clock, B: Blocks<Store<R>, Outs>>(
     alloc: Global,
@@ -99,6 +237,22 @@ fn run_words<S: Source, K: Sink, R: Rig, C: Clock, B: Blocks<Store<R>, Outs>>(
     clock: &mut C,
 ) -> (Status, R)
     requires { IsRunner B.served R.Disk (λ store. store.book) (λ store. store.clock) (λ v. v.items) (B.may blocks.now) (B.ran blocks.now) }
+    // What it comes to, row by row of its status.
+    ensures headline { IsTrue (S.told source.old) → IsTrue (K.told sink.old) → Plain (R.Disk.told rig) (R.Disk.honest rig) → Headline (record {
+      blocks = B.served;
+      request = request_of (map string_bytes words.now);
+      answer = C.last_answer clock.new;
+      left = S.left source.old;
+      before = K.held sink.old;
+      after = K.held sink.new;
+      seen = R.Disk.seen rig;
+      old_images = R.Disk.may_leave rig;
+      images = R.Disk.may_leave result.1;
+      start = R.Disk.faults rig;
+      now = R.Disk.faults result.1;
+      untouched = result.1 ≡ rig;
+    }) result.0 }
+
     // Why it ended so, and what it put and left on the disk.
     ensures cause { RunCause B.served (request_of (map string_bytes words.now)) (S.told source.old) (S.left source.old)
         (Rose (S.faults source.old) (S.faults source.new)) (Rose (K.faults sink.old) (K.faults sink.new)) (DiskRose (R.Disk.faults rig) (R.Disk.faults result.1))
@@ -107,7 +261,7 @@ fn run_words<S: Source, K: Sink, R: Rig, C: Clock, B: Blocks<Store<R>, Outs>>(
         → EndsWell B.served (request_of (map string_bytes words.now)) (S.told source.old) (S.left source.old)
         (λ rules. Plain (R.Disk.told rig) (R.Disk.honest rig) × IsStore rules (R.Disk.seen rig)) result.0 }
     ensures text { IsTrue (K.told sink.old) → RunText B.served (request_of (map string_bytes words.now)) (C.last_answer clock.new)
-        (S.told source.old) (S.left source.old) (λ moment document status. Plain (R.Disk.told rig) (R.Disk.honest rig) → DocumentText document moment (R.Disk.seen rig) (R.Disk.may_leave rig)
+        (S.told source.old) (S.left source.old) (result.1 ≡ rig) (λ moment document status. Plain (R.Disk.told rig) (R.Disk.honest rig) → DocumentText document moment (R.Disk.seen rig) (R.Disk.may_leave rig)
         (R.Disk.faults rig) (R.Disk.faults result.1) (R.Disk.may_leave result.1) (K.held sink.old) (K.held sink.new) status)
         (λ n moment document status. Plain (R.Disk.told rig) (R.Disk.honest rig) → LoadText n document moment (R.Disk.seen rig) (R.Disk.may_leave rig)
         (R.Disk.faults rig) (R.Disk.faults result.1) (R.Disk.may_leave result.1) (K.held sink.old) (K.held sink.new) status)
@@ -161,7 +315,7 @@ fn run_source<S: Source, K: Sink, R: Rig, C: Clock, B: Blocks<Store<R>, Outs>>(
     ensures cause { SourceCause B.served (S.told source.old) (S.left source.old)
         (Rose (S.faults source.old) (S.faults source.new)) (Rose (K.faults sink.old) (K.faults sink.new)) (DiskRose (R.Disk.faults rig) (R.Disk.faults result.1))
         (λ rules area at. Plain (R.Disk.told rig) (R.Disk.honest rig) → IsBad rules (R.Disk.seen rig) area at) result.0 }
-    ensures text { IsTrue (K.told sink.old) → SourceText B.served (S.told source.old) (S.left source.old)
+    ensures text { IsTrue (K.told sink.old) → SourceText B.served (S.told source.old) (S.left source.old) (result.1 ≡ rig)
         (λ document status. Plain (R.Disk.told rig) (R.Disk.honest rig) → DocumentText document (moment_of_start start (C.last_answer clock.new)) (R.Disk.seen rig) (R.Disk.may_leave rig)
         (R.Disk.faults rig) (R.Disk.faults result.1) (R.Disk.may_leave result.1) (K.held sink.old) (K.held sink.new) status)
         (K.held sink.old) (K.held sink.new) result.0 }
@@ -197,7 +351,7 @@ fn run_bytes<K: Sink, R: Rig, C: Clock, B: Blocks<Store<R>, Outs>>(
     requires { IsRunner B.served R.Disk (λ store. store.book) (λ store. store.clock) (λ v. v.items) (B.may blocks.now) (B.ran blocks.now) }
     ensures cause { BytesCause B.served bytes.now (Rose (K.faults sink.old) (K.faults sink.new)) (DiskRose (R.Disk.faults rig) (R.Disk.faults result.1))
         (λ rules area at. Plain (R.Disk.told rig) (R.Disk.honest rig) → IsBad rules (R.Disk.seen rig) area at) result.0 }
-    ensures text { IsTrue (K.told sink.old) → BytesText B.served bytes.now
+    ensures text { IsTrue (K.told sink.old) → BytesText B.served bytes.now (result.1 ≡ rig)
         (λ document status. Plain (R.Disk.told rig) (R.Disk.honest rig) → DocumentText document (moment_of_start start (C.last_answer clock.new)) (R.Disk.seen rig) (R.Disk.may_leave rig)
         (R.Disk.faults rig) (R.Disk.faults result.1) (R.Disk.may_leave result.1) (K.held sink.old) (K.held sink.new) status)
         (K.held sink.old) (K.held sink.new) result.0 }
@@ -388,6 +542,8 @@ fn make<R: Rig, B: Blocks<Store<R>, Outs>>(
         → Carries R.Disk.may_leave R.Disk.faults schema.now command.now store.book it.0.book store.clock it.0.clock e it.1) }
     ensures stops { IfErr result (λ it. Plain (R.Disk.told store.book.rig) (R.Disk.honest store.book.rig) → (e : Payloads)
         → Stops R.Disk.may_leave command.now store.book store.clock e it.1 it.0) }
+    ensures settles { IfOk result (λ it. Plain (R.Disk.told store.book.rig) (R.Disk.honest store.book.rig)
+        → command.now ≡ Report → HasSettled R.Disk.may_leave it.0.book) }
     ensures ok_telling { IfOk result (λ it. SameTelling R.Disk.told R.Disk.honest store.book.rig it.0.book.rig) }
     ensures err_telling { IfErr result (λ it. SameTelling R.Disk.told R.Disk.honest store.book.rig it.1) }
     ensures ok_orders { IfOk result (λ it. Gives command.now (R.Disk.order store.book.rig) (R.Disk.orders store.book.rig) (R.Disk.order it.0.book.rig) (R.Disk.orders it.0.book.rig)) }

@@ -3,7 +3,7 @@ ghost use Rattle.std.specs.Prelude.{◌≡◌, ◌≤◌, false, IfOk, OnErr, []
 ghost use Rattle.delf_disk.specs.Plain.{Plain, SameKind, SameTelling};
 ghost use Rattle.delf_model.specs.declared.schema.Schema.{Schema as ASchema};
 ghost use Rattle.delf_model.specs.declared.call.Refusal.TheVariants as refused;
-ghost use Rattle.delf_model.specs.declared.script.Command.TheVariants.{Work};
+ghost use Rattle.delf_model.specs.declared.script.Command.TheVariants.{Work, Report};
 ghost use Rattle.job_report.specs.Texts.{refusal_text};
 ghost use Rattle.delf_model.specs.Graph.{object_at};
 ghost use Rattle.delf_model.specs.Payloads.{Payloads};
@@ -11,7 +11,7 @@ ghost use Rattle.script_runner.specs.Lines.{LineLeaves, Tells};
 ghost use Rattle.documents.specs.Names.{HasNames, IsNumberedCommand};
 ghost use Rattle.script_runner.specs.Orders.{Gives};
 ghost use Rattle.script_runner.specs.Serial.{row_found, graph_lines, report_line};
-ghost use Rattle.script_runner.specs.Standing.{Falls, Carries, Halted, StepsCarry, ReadsOut, StaysHeld, IsServed, LineSaid};
+ghost use Rattle.script_runner.specs.Standing.{Falls, Carries, Halted, HasSettled, StepsCarry, ReadsOut, StaysHeld, IsServed, LineSaid};
 ghost use Rattle.script_runner.specs.Worlds.{state_of};
 
 use crate::answers::submit;
@@ -43,6 +43,8 @@ pub(crate) fn perform<R: Rig>(
         → Carries R.Disk.may_leave R.Disk.faults schema.now command.now store.old.book store.new.book store.old.clock store.new.clock e text) }
     ensures halts { OnErr result (Plain (R.Disk.told store.old.book.rig) (R.Disk.honest store.old.book.rig) → (e : Payloads)
         → Halted R.Disk.may_leave command.now store.old.book store.old.clock e store.new.book.rig) }
+    ensures settles { IfOk result (λ text. Plain (R.Disk.told store.old.book.rig) (R.Disk.honest store.old.book.rig)
+        → command.now ≡ Report → HasSettled R.Disk.may_leave store.new.book) }
     ensures telling { SameTelling R.Disk.told R.Disk.honest store.old.book.rig store.new.book.rig }
     ensures orders { Gives command.now (R.Disk.order store.old.book.rig) (R.Disk.orders store.old.book.rig) (R.Disk.order store.new.book.rig) (R.Disk.orders store.new.book.rig) }
     ensures cause { Falls R.Disk.faults store.old.book store.new.book }
@@ -176,6 +178,7 @@ fn report<R: Rig>(alloc: Global, book: &mut ProgramBook<R>) -> Result<Bytes, All
     ensures serves { IfOk result (λ text. Plain (R.Disk.told book.old.rig) (R.Disk.honest book.old.rig)
         → ReadsOut R.Disk.may_leave R.Disk.faults (λ w. report_line (state_of w)) book.old book.new text) }
     ensures halts { OnErr result (Plain (R.Disk.told book.old.rig) (R.Disk.honest book.old.rig) → StaysHeld R.Disk.may_leave book.old book.new) }
+    ensures settles { IfOk result (λ text. Plain (R.Disk.told book.old.rig) (R.Disk.honest book.old.rig) → HasSettled R.Disk.may_leave book.new) }
     ensures kind { SameKind R.Disk.told R.Disk.honest R.Disk.order R.Disk.orders book.old.rig book.new.rig }
     ensures cause { Falls R.Disk.faults book.old book.new }
 {
@@ -191,6 +194,7 @@ fn report<R: Rig>(alloc: Global, book: &mut ProgramBook<R>) -> Result<Bytes, All
 fn reported<R: Rig>(alloc: Global, book: &mut ProgramBook<R>) -> Result<Bytes, LineFault>
     requires up { book.old.down ≡ false }
     ensures text { IfOk result (Tells R.Disk.told R.Disk.honest R.Disk.may_leave book.old (λ w. report_line (state_of w))) }
+    ensures settles { IfOk result (λ text. Plain (R.Disk.told book.old.rig) (R.Disk.honest book.old.rig) → HasSettled R.Disk.may_leave book.new) }
     ensures leaves { LineLeaves R.Disk.told R.Disk.honest R.Disk.may_leave R.Disk.order R.Disk.orders R.Disk.faults book.old book.new result }
 {
     match book.settle() {

@@ -1,6 +1,7 @@
 use Rattle.documents.specs.Names.{IsNumberedCommand, HasNoLanes}
 use Rattle.script_runner.proofs.LaneRuns.{served_if}
 use Rattle.std.proofs.Common.{subst, sym}
+use Rattle.script_runner.proofs.Calls.{if_ok}
 use Rattle.script_runner.proofs.lanes.serve.Goals as goal
 
 pub run_block-requires-clause-numbered : goal.run_block-requires-clause-numbered
@@ -20,3 +21,6 @@ returns-in-Par-clause-telling g c = record { tells = c.run_block.ensures.kind.te
 
 pub returns-in-Par-clause-orders : goal.returns-in-Par-clause-orders
 returns-in-Par-clause-orders g c = rw c.in-Par.is (c.run_block.ensures.kind.last_order, c.run_block.ensures.kind.order_count)
+
+pub returns-in-Par-clause-settles : goal.returns-in-Par-clause-settles
+returns-in-Par-clause-settles g c = if_ok _ c.run_block.result.1 (λ text is plain report. absurd (cc (c.in-Par.is, report)))

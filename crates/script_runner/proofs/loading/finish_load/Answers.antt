@@ -25,7 +25,7 @@ returns-clause-text g c = λ told plain e stands.
           let answer = rw at.field-0-is at at.ensures.answer in
           let cause = rw at.field-0-is at at.ensures.cause in
           fell_load g.R.Disk.may_leave g.R.Disk.faults c.args.n old c.settle.new.self.rig c.into_disk.result clock at.len e _ _ _ w.put_down-status-in-Err-DiskFault.result c.into_disk.ensures
-          c.len-len.ensures.legal answer.0 cause.1 answer.2 (λ d image. (at.ensures.crash plain answer.0 e (stands.rests answer.0)).now d image) stands
+          c.len-len.ensures.legal answer.0 cause.0 cause.1 answer.2 (λ d image. (at.ensures.crash plain answer.0 e (stands.rests answer.0)).now d image) stands
           (w.put_down-status-in-Err-DiskFault.ensures.text told) w.put_down-status-in-Err-DiskFault.ensures.cause))
     ]
 

@@ -25,7 +25,7 @@ returns-in-Err-clause-starves g c = λ plain e stands.
       c.loop-command.command-index,
       starved_in g.R.Disk.may_leave g.R.Disk.faults c.args.schema.now (world_of old.book old.clock e) c.args.commands.now
           (g.R.Disk.faults old.book.rig) c.loop-command.command-index c.command-item.result c.loop-command.store.book c.loop-command.store.clock c.serve-next.result.0.book.rig leads.0
-          (omega arith) c.command-item.is leads.1 (err_of c.serve-next.result.1 _ c.in-Err.is c.serve-next.ensures.halts here leads.1.payloads leads.1.stands),
+          (omega arith) c.command-item.is c.serve-next.ensures.cause.later leads.1 (err_of c.serve-next.result.1 _ c.in-Err.is c.serve-next.ensures.halts here leads.1.payloads leads.1.stands),
     )
 
 pub loop-command-preserved : goal.loop-command-preserved

@@ -24,7 +24,7 @@ returns-clause-text g c = λ told plain e stands.
           let answer = rw at.field-0-is at at.ensures.answer in
           let cause = rw at.field-0-is at at.ensures.cause in
           fell_text (world_of old clock e) at.len c.args.done _ _ _ _ _ _ w.put_down-status.result answer.2
-          (fell_end g.R.Disk.may_leave g.R.Disk.faults old c.settle.new.self.rig c.into_disk.result clock e c.into_disk.ensures c.len-len.ensures.legal answer.0 cause.1
+          (fell_end g.R.Disk.may_leave g.R.Disk.faults old c.settle.new.self.rig c.into_disk.result clock e c.into_disk.ensures c.len-len.ensures.legal answer.0 cause.0 cause.1
           (λ d image. (at.ensures.crash plain answer.0 e (stands.rests answer.0)).now d image) stands)
           (w.put_down-status.ensures.text told) w.put_down-status.ensures.cause))
     ]

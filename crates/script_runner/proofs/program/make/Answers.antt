@@ -44,6 +44,7 @@ pub returns-in-Ok-lines : goal.returns-in-Ok-lines
 returns-in-Ok-lines g c = record {
   same_rules = c.serve-store.ensures.rules;
   serves = ok_is _ c.serve-store.result.1 c.in-Ok-lines.lines c.in-Ok-lines.is c.serve-store.ensures.serves;
+  settles = ok_is _ c.serve-store.result.1 c.in-Ok-lines.lines c.in-Ok-lines.is c.serve-store.ensures.settles;
   stops = tt;
   ok_telling = c.serve-store.ensures.telling;
   err_telling = tt;
@@ -52,3 +53,6 @@ returns-in-Ok-lines g c = record {
   ok_count = c.serve-store.ensures.cause;
   err_count = tt;
 }
+
+pub returns-in-Ok-clause-settles : goal.returns-in-Ok-clause-settles
+returns-in-Ok-clause-settles g c = if_ok _ c.opened.result (λ it is plain report. absurd (cc (c.in-Crash.is, report)))

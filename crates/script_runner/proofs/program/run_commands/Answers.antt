@@ -62,7 +62,7 @@ returns-in_default-clause-text g c = λ tell plain e stands.
     c.loop-command.command-index c.loop-command.done c.command-item.result c.loop-command.store.book c.in-Ok.next.book c.loop-command.store.clock c.in-Ok.next.clock c.into_disk.result
     (IsTrue (g.K.Sink.told c.args.sink.now)) _ _ _ c.in-Ok.lines tell inv.done c.into_disk.ensures c.len-len.ensures.legal (omega arith) c.command-item.is so_far
     (c.in-Ok.ensures.serves here so_far.reached.payloads so_far.reached.stands)
-    (rw (sym c.as_slice.ensures) (c.in_default.ensures.front (subst IsTrue (sym inv.told) tell)))
+    (rw (sym c.as_slice.ensures) (c.in_default.ensures.front (subst IsTrue (sym inv.told) tell))) (c.in-Ok.ensures.settles here)
 
 pub returns-in_default-clause-orders : goal.returns-in_default-clause-orders
 returns-in_default-clause-orders g c = rw c.into_disk.ensures (

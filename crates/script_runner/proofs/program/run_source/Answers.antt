@@ -19,7 +19,7 @@ returns-in-Ok-clause-text g c = λ sunk.
     let read : List ℕ = c.as_slice.result.now in
     let left = g.S.Source.left c.args.source.now in
     let rest = g.S.Source.left c.read_at_most.new.source in
-    source_text g.B.Blocks.served (g.S.Source.told c.args.source.now) left read rest
+    source_text g.B.Blocks.served (g.S.Source.told c.args.source.now) left read rest (c.run_bytes.result.1 ≡ c.args.rig)
     (λ document status. Plain (g.R.Disk.told c.args.rig) (g.R.Disk.honest c.args.rig) → DocumentText document (moment_of_start c.args.start (g.C.Clock.last_answer c.run_bytes.new.clock))
     (g.R.Disk.seen c.args.rig) (g.R.Disk.may_leave c.args.rig) (g.R.Disk.faults c.args.rig) (g.R.Disk.faults c.run_bytes.result.1) (g.R.Disk.may_leave c.run_bytes.result.1)
     (g.K.Sink.held c.args.sink.now) (g.K.Sink.held c.run_bytes.new.sink) status) (g.K.Sink.held c.args.sink.now) (g.K.Sink.held c.run_bytes.new.sink) c.run_bytes.result.0

@@ -17,4 +17,4 @@ returns-clause-serves g c = IfOk-weaker c.work_line.result _ _ (λ text said pla
 pub returns-clause-halts : goal.returns-clause-halts
 returns-clause-halts g c = on_err c.work_line.result (λ plain e stands.
     work_halts g.R.Disk.may_leave g.R.Disk.faults c.args.n (world_of c.args.book.now c.args.clock e) (g.R.Disk.faults c.args.book.now.rig) c.make_steps.new.book
-    c.args.clock c.in_ok-made.made c.in_ok-made.end c.in_ok-made.ensures.made c.len-after.ensures.legal (c.in_ok-made.ensures.steps plain e stands))
+    c.args.clock c.in_ok-made.made c.in_ok-made.end (sym c.is_down.ensures ∙ c.if-is_down.false) c.in_ok-made.ensures.made c.len-after.ensures.legal (c.in_ok-made.ensures.steps plain e stands))

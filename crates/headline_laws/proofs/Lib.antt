@@ -1,0 +1,11 @@
+pub mod Legal
+pub mod Moves
+pub mod Onward
+pub mod Tags
+pub mod Placing
+pub mod Lanes
+pub mod Whose
+pub mod Same
+pub mod Keeping
+pub mod Finding
+pub mod Headline
