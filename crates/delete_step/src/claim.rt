@@ -1,3 +1,4 @@
+//! A claim: the item that is to be logged, with its payload.
 ghost use Rattle.std.specs.Prelude.{◌≡◌, ◌≤◌, length};
 ghost use Rattle.delf_model.specs.declared.TheConstants.{LIMIT};
 ghost use Rattle.entry_codec.specs.declared.limits.TheConstants.{LARGEST_PAYLOAD};

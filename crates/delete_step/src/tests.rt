@@ -1,3 +1,4 @@
+//! Records of the restoration log, byte by byte.
 use super::*;
 use delf_model::{EdgeKey, EdgeNo, EdgeRow, Item, Job, ObjectId, ObjectRow, TypeNo};
 use std::process::Abort;

@@ -153,7 +153,7 @@ fn ask<G: GraphStore>(ledger: &mut Ledger<G>, clock: Moment, call: &Call) -> Res
     }
 }
 
-/// Whether the type number of a Create and the edge number of a Link are below the counts of the rules.
+/// Whether the rules have the type that an order creates, or the edge type that it links by.
 fn is_numbered(rules: &Rules, call: &Call) -> bool
     ensures { result ≡ is_numbered_call rules.now call.now }
 {

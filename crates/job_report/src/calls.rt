@@ -1,3 +1,4 @@
+//! The lines of accepted calls.
 #![tactic(auto, unfolding(crate::specs::Texts::created_text, crate::specs::Texts::updated_text, crate::specs::Texts::linked_text, crate::specs::Texts::unlinked_text, crate::specs::Texts::deleting_text, crate::specs::Texts::restoring_text))]
 
 ghost use Rattle.std.specs.Prelude.{◌≡◌, ◌++◌, IfOk};

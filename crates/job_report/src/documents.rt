@@ -1,3 +1,4 @@
+//! The lines of `check` and `load`, and that of a fault in a document.
 #![tactic(auto, unfolding(crate::specs::Texts::checked_text, crate::specs::Texts::route_text, crate::specs::Texts::load_text, crate::specs::Texts::fault_text))]
 
 ghost use Rattle.std.specs.Prelude.{◌≡◌, ◌++◌, IfOk, flat_map};

@@ -1,3 +1,4 @@
+//! Hexadecimal digits.
 ghost use Rattle.std.specs.Prelude.{◌≡◌, ◌<◌, false};
 ghost use Rattle.std.specs.Fmt.{digit_glyph};
 

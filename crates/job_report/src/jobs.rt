@@ -1,3 +1,4 @@
+//! The lines of jobs and of the rows that they list.
 #![tactic(auto, unfolding(crate::specs::Texts::job_text, crate::specs::Texts::listed_text, crate::specs::Texts::no_job_text, crate::specs::Texts::jobs_text))]
 
 ghost use Rattle.std.specs.Prelude.{◌≡◌, ◌++◌, IfOk, codes, decimal};

@@ -1,3 +1,4 @@
+//! What stands before the line of a lane, and the line of a block.
 #![tactic(auto, unfolding(crate::specs::Texts::lane_text, crate::specs::Texts::par_text))]
 
 ghost use Rattle.std.specs.Prelude.{◌≡◌, ◌++◌, IfOk};

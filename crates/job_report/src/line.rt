@@ -1,3 +1,4 @@
+//! A line in the making.
 ghost use Rattle.std.specs.Prelude.{◌≡◌, ◌++◌, [], IfOk, OnOk, decimal, flat_map};
 ghost use Rattle.job_report.specs.Words.{line_end, escaped, quoted};
 

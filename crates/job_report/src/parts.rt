@@ -1,3 +1,4 @@
+//! The parts that many lines have: ids, names, edges, names of jobs.
 ghost use Rattle.std.specs.Prelude.{◌≡◌, ◌++◌, IfOk, decimal};
 ghost use Rattle.job_report.specs.Words.{edge_words, job_name, condemned_words};
 

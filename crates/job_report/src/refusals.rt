@@ -1,3 +1,4 @@
+//! The line of a refused call.
 #![tactic(auto, unfolding(crate::specs::Texts::refusal_text))]
 
 ghost use Rattle.std.specs.Prelude.{◌≡◌, ◌++◌, IfOk, codes};

@@ -1,3 +1,4 @@
+//! The lines of rows of the graph.
 #![tactic(auto, unfolding(crate::specs::Texts::graph_text, crate::specs::Texts::object_text, crate::specs::Texts::edge_text, crate::specs::Texts::found_text, crate::specs::Texts::absent_text))]
 
 ghost use Rattle.std.specs.Prelude.{◌≡◌, ◌++◌, IfOk};

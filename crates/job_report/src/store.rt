@@ -1,3 +1,4 @@
+//! The lines of an opening and of a store that is down or bad.
 #![tactic(auto, unfolding(crate::specs::Texts::opened_text, crate::specs::Texts::down_text, crate::specs::Texts::bad_journal_text, crate::specs::Texts::bad_vault_text))]
 
 ghost use Rattle.std.specs.Prelude.{◌≡◌, IfOk};

@@ -1,3 +1,4 @@
+//! Lines, byte by byte.
 use crate::{
     WorkEnd, edge_line, job_line, listed_line, load_line, object_line, par_line, refusal_line,
     report_json, restoring_line, route_line, unlinked_line, work_line,

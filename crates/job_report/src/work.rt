@@ -1,3 +1,4 @@
+//! The line of a `work`.
 #![tactic(auto, unfolding(crate::specs::Texts::work_text))]
 
 ghost use Rattle.std.specs.Prelude.{◌≡◌, ◌++◌, IfOk};

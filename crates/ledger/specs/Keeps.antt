@@ -1,3 +1,4 @@
+-- What a ledger keeps of its history.
 use Rattle.std.specs.Prelude.{ℕ, Bool, List}
 use Rattle.entry_codec.specs.EntryHead.{AreEntries}
 use Rattle.delf_model.specs.declared.entry.Entry.{Entry}

@@ -1,3 +1,4 @@
+-- A ledger: rules and history, with what its calls answer of them.
 use Rattle.std.specs.Prelude.{◌≡◌, ◌≤◌, ◌+◌, ℕ, Bool, true, cond, ◌&&◌, nat_lt, List, [], ◌∷◌, ◌++◌, Option, Some, None, length, slice_get, is_none}
 use Rattle.job_table.specs.Table.{item_at}
 use Rattle.delf_model.specs.declared.call.Cause.{Cause}
@@ -78,7 +79,7 @@ pub record HasEntered {G : Type 0} (old now : Ledgered G) (entry : Entry) : Type
   pub held : now.held ≡ old.held
   pub spare : old.spare ≤ now.spare + 1
 
--- whether the type number of a Create and the edge number of a Link are below the counts of the rules
+-- whether the rules have the type that a call creates an object of, or the edge type that it links by
 abbrev pub is_numbered_call : RuleSet → Call → Bool
 is_numbered_call rules (call.Create kind id payload) = nat_lt kind (length rules.objects)
 is_numbered_call rules (call.Update id payload) = true

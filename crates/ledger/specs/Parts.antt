@@ -1,3 +1,4 @@
+-- The entries of a ledger.
 use Rattle.std.specs.Prelude.{ℕ, List}
 use Rattle.delf_model.specs.declared.entry.Entry.{Entry}
 use Rattle.delf_model.specs.declared.entry.What.{What}

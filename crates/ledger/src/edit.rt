@@ -1,17 +1,19 @@
+//! What an entry does to the graph, and the size of its record's payload.
 ghost use Rattle.std.specs.Prelude.{◌≡◌, ◌≤◌, ℕ, IsTrue, OnOk};
 ghost use Rattle.delf_model.specs.declared.rows.EdgeKey.{EdgeKey};
 ghost use Rattle.delf_model.specs.declared.rows.Item.{Item};
 ghost use Rattle.delf_model.specs.Graph.{changed, Same};
-ghost use Rattle.delf_model.specs.State.{State, size_of as size_of_item};
+ghost use Rattle.delf_model.specs.Room.{greatest_moment};
+ghost use Rattle.delf_model.specs.State.{State};
 ghost use Rattle.delf_model.specs.Puts.{judged};
-ghost use Rattle.delf_model.specs.Step.{new_object as object_of, due_of, change_of, put_unless, put_of_item};
+ghost use Rattle.delf_model.specs.Step.{new_object as object_of, new_edge as edge_of, due_of, change_of, put_unless, put_of_item};
 ghost use Rattle.job_table.specs.Table.{IsTableOf, IsGraphOf, item_at};
 ghost use Rattle.ledger.specs.Edits.{change_of_edit, CanChange};
 ghost use Rattle.ledger.specs.Ledgers.{has_room_for, record_size as record_size_of, size_of_put};
 
 use delf_model::{
-    EdgeKey, EdgeRow, Entry, GraphStore, Item, Moment, ObjectId, ObjectRow, ObjectRule, Rules,
-    TypeNo, What,
+    EdgeKey, EdgeNo, EdgeRow, Entry, GraphStore, Item, Moment, ObjectId, ObjectRow, ObjectRule,
+    Rules, TypeNo, What,
 };
 use job_table::JobTable;
 use restorer::judge_put;
@@ -35,7 +37,7 @@ pub(crate) fn edit_of<G: GraphStore>(
     rules: &Rules,
     entry: &Entry,
 ) -> Edit
-    requires { entry.now.moment ≤ 999999999999 }
+    requires { entry.now.moment ≤ greatest_moment }
     ensures { (s : State) → IsTableOf s jobs.now → IsGraphOf s (G.graph graph.now) (G.counts graph.now) rules.now → change_of_edit result ≡ change_of s entry.now.moment entry.now.what }
 {
     let len = jobs.len();
@@ -54,15 +56,7 @@ pub(crate) fn edit_of<G: GraphStore>(
             to,
             size,
             ..
-        } => Edit::PutEdge(EdgeRow {
-            key: EdgeKey {
-                edge: *edge,
-                from: *from,
-                to: *to,
-            },
-            birth: len,
-            size: *size,
-        }),
+        } => Edit::PutEdge(new_edge(len, *edge, *from, *to, *size)),
         What::Unlink { edge, from, to, .. } => Edit::TakeEdge(EdgeKey {
             edge: *edge,
             from: *from,
@@ -91,7 +85,7 @@ fn new_object(
     id: ObjectId,
     size: u16,
 ) -> ObjectRow
-    requires { moment ≤ 999999999999 }
+    requires { moment ≤ greatest_moment }
     ensures { (s : State) → len ≡ s.len → rules.now ≡ s.rules → result ≡ object_of s moment kind id size }
 {
     ObjectRow {
@@ -104,9 +98,20 @@ fn new_object(
     }
 }
 
+/// The row of a new edge.
+fn new_edge(len: u32, edge: EdgeNo, from: ObjectId, to: ObjectId, size: u16) -> EdgeRow
+    ensures { (s : State) → len ≡ s.len → result ≡ edge_of s edge from to size }
+{
+    EdgeRow {
+        key: EdgeKey { edge, from, to },
+        birth: len,
+        size,
+    }
+}
+
 /// The moment from which an object of this annotation expires, where it is created at this moment.
 fn due(rule: Option<ObjectRule>, moment: Moment) -> Moment
-    requires { moment ≤ 999999999999 }
+    requires { moment ≤ greatest_moment }
     ensures { result ≡ due_of rule moment }
 {
     match rule {
@@ -177,21 +182,12 @@ fn put_size<G: GraphStore>(graph: &G, jobs: &JobTable, item: Option<Item>) -> u1
     match item {
         Some(item) => {
             if judge_put(graph, jobs, &item).is_none() {
-                size_of(&item)
+                item.size()
             } else {
                 0
             }
         }
         None => 0,
-    }
-}
-
-fn size_of(item: &Item) -> u16
-    ensures { result ≡ size_of_item item.now }
-{
-    match item {
-        Item::Object { row, .. } => row.size,
-        Item::Edge { row, .. } => row.size,
     }
 }
 

@@ -1,3 +1,4 @@
+//! The entries of a history, with room for more.
 ghost use Rattle.std.specs.Prelude.{◌≡◌, ◌+◌, ◌<◌, ◌≤◌, ◌++◌, ◌∷◌, [], OnOk, slice_get, option_map};
 ghost use Rattle.ledger.specs.Parts.{what_of};
 

@@ -1,3 +1,4 @@
+//! The put of an erased row.
 ghost use Rattle.std.specs.Prelude.{◌≡◌};
 ghost use Rattle.delf_model.specs.Graph.{changed};
 ghost use Rattle.delf_model.specs.Step.{put_of_item};

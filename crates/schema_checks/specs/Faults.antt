@@ -1,3 +1,4 @@
+-- The line that a broken rule is told with.
 use Rattle.std.specs.Prelude.{◌≡◌, ℕ, Option, Some, None, slice_get}
 use Rattle.delf_model.specs.declared.schema.Schema.{Schema}
 use Rattle.delf_model.specs.declared.schema.ObjectType.{ObjectType}

@@ -1,3 +1,4 @@
+-- The printed route of a type.
 use Rattle.std.specs.Prelude.{◌≡◌, ◌<◌, ◌-◌, ◌⊎◌, ℕ, List, [], ◌∷◌, Option, Some, None, length, IsTrue}
 use Rattle.std.specs.List.{slice_index_or}
 use Rattle.delf_model.specs.RuleSet.{RuleSet, is_deep, is_refcount}

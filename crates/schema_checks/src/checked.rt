@@ -1,3 +1,4 @@
+//! A checked schema: its rules, and the route of each of its types.
 ghost use Rattle.std.specs.Prelude.{◌≡◌, IfOk, None, slice_get, List, ℕ};
 ghost use Rattle.delf_model.specs.Checked.{HasRoute};
 ghost use Rattle.schema_checks.specs.Routes.{IsFirstEdge, IsPrintedRoute};

@@ -1,3 +1,4 @@
+//! Which edge type begins the printed route of a type.
 ghost use Rattle.std.specs.Prelude.{◌≡◌, ◌↔◌, ◌≤◌, ◌<◌, IsTrue, slice_get};
 ghost use Rattle.schema_checks.specs.Routes.{IsFirstEdge, BeginsShortest};
 

@@ -1,3 +1,4 @@
+//! The first broken rule of a schema, with its line.
 ghost use Rattle.std.specs.Prelude.{◌≡◌, IfOk, IfErr, IsOkUnless};
 ghost use Rattle.delf_model.specs.Checked.{IsChecked, IsSpellable, numbered};
 ghost use Rattle.schema_checks.specs.Faults.{fault_of, line_of_object, line_of_edge, IsCheckFault};

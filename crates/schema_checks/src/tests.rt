@@ -1,3 +1,4 @@
+//! Broken schemas, and the routes of a ring.
 use crate::{CheckFault, Checked, Fault, check};
 use delf_model::{
     EdgeNo, EdgeRule, EdgeType, List, Name, NameFault, ObjectRule, ObjectType, Rules, RulesFault,
