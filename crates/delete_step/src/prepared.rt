@@ -6,7 +6,7 @@ ghost use Rattle.delete_step.specs.Records.{head_of};
 use crate::claim::Claim;
 use delf_model::HEAD_LIMIT;
 use entry_codec::write_item;
-use sha2::{Digest, Sha256};
+use payload_digest::digest_of;
 use std::marker::Model;
 
 /// A claim with the record that logs it: the head names the item and holds the SHA-256 of the payload. Contracts see
@@ -35,7 +35,7 @@ pub fn prepare(claim: Claim) -> Prepared
     ensures { result ≡ claim }
 {
     let mut head = [0; HEAD_LIMIT];
-    let digest = Sha256::digest(claim.payload());
+    let digest = digest_of(claim.payload());
     let head_len = write_item(claim.item(), &digest, &mut head);
     Prepared {
         claim,

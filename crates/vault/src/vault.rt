@@ -22,7 +22,7 @@ use delf_disk::{Area, Disk, Failed};
 use delf_model::{Item, LIMIT};
 use entry_codec::read_item;
 use gate_log::{GateLog, LogFault};
-use sha2::{Digest, Sha256};
+use payload_digest::digest_of;
 use std::alloc::{AllocError, Global};
 use std::marker::Model;
 
@@ -344,7 +344,7 @@ impl Vault {
     {
         let stored = self.stored_digest(disk, i)?;
         let len = self.log.read_payload(disk, i, buf)?;
-        let found = Sha256::digest(&buf[..len as usize]);
+        let found = digest_of(&buf[..len as usize]);
         if stored != found {
             return Err(FetchFault::Damaged {
                 item: i,

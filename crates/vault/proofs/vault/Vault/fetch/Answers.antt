@@ -14,7 +14,7 @@ returns-then-ne-clause-damaged g c = λ plain mark records sized log.
     let there = subst (λ (y : Areas). Log mark records (area_of v.area y)) (sym (c.stored_digest.ensures.seen plain)) log in
     let read = subst (λ (w : LogView). PayloadRead w.area w.sizes c.args.i (g.D.Disk.seen c.stored_digest.new.disk) (take c.in_ok-len.len c.read_payload.new.buf)) c.self.view_is
     (c.in_ok-len.ensures.payload (stays_plain c.stored_digest.ensures.kind plain)) mark records sized there in
-    (c.in_ok-stored.ensures.seal plain mark records sized log, c.digest-found.ensures ∙ ap (λ (l : List ℕ). sha256 l) read)
+    (c.in_ok-stored.ensures.seal plain mark records sized log, c.digest_of-found.ensures ∙ ap (λ (l : List ℕ). sha256 l) read)
 
 pub returns-clause-fetched : goal.returns-clause-fetched
 returns-clause-fetched g c = λ plain mark records sized log.
@@ -22,5 +22,5 @@ returns-clause-fetched g c = λ plain mark records sized log.
     let there = subst (λ (y : Areas). Log mark records (area_of v.area y)) (sym (c.stored_digest.ensures.seen plain)) log in
     let read = subst (λ (w : LogView). PayloadRead w.area w.sizes c.args.i (g.D.Disk.seen c.stored_digest.new.disk) (take c.in_ok-len.len c.read_payload.new.buf)) c.self.view_is
     (c.in_ok-len.ensures.payload (stays_plain c.stored_digest.ensures.kind plain)) mark records sized there in
-    let same : c.in_ok-stored.stored ≡ c.digest-found.result = search rules in
-    (read, sym (c.in_ok-stored.ensures.seal plain mark records sized log) ∙ same ∙ c.digest-found.ensures)
+    let same : c.in_ok-stored.stored ≡ c.digest_of-found.result = search rules in
+    (read, sym (c.in_ok-stored.ensures.seal plain mark records sized log) ∙ same ∙ c.digest_of-found.ensures)
