@@ -45,7 +45,7 @@ fn files_hold_what_lanes_were_told(rt: HostRuntime) -> Result<(), Fail> {
     let _ = fs::remove_dir_all(&rt, FOLDER);
     fs::create_dir(&rt, FOLDER)?;
     let mut lanes = List::new(rt.alloc());
-    add_lanes(rt.alloc(), &mut lanes, 4)?;
+    add_lanes(rt.alloc(), &mut lanes, 0, 4)?;
     let first = FileDisk::at(&rt, rt.alloc(), FOLDER)?;
     let second = FileDisk::at(&rt, rt.alloc(), FOLDER)?;
     let found = finds(&rt, rt.alloc(), first, second, lanes.as_slice())?;
