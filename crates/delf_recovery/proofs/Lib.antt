@@ -12,3 +12,4 @@ mod Faults
 mod Wholes
 mod Notes
 mod Pieces
+mod Widened

@@ -23,3 +23,5 @@ mod runs;
 mod scans;
 #[cfg(test)]
 mod stops;
+#[cfg(test)]
+mod wides;

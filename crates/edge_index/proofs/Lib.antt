@@ -8,3 +8,4 @@ pub mod Copies
 pub mod Counts
 pub mod Orders
 pub mod Changes
+pub mod Plains
