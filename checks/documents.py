@@ -1,8 +1,8 @@
 """documents.py DELF [all]: strange and very large documents have the fault that the language says, in time that grows with their size.
 
-Run it as `python3 checks/documents.py crates/delf/out/delf`. Each byte at each kind of place, line ends at odd places, and
+Run it as `python3 checks/documents.py crates/delf/out/delf`. Each byte of 256 at each kind of place, line ends at odd places, and
 numbers at and past each limit go through `check` and are compared with the small reader of documents. Then come documents of
-16 MiB, whose time is taken at half and at the whole size. With `all` every byte is tried at every place.
+16 MiB, whose time is taken at half and at the whole size. With `all` more changes are tried at every place.
 """
 import random
 import sys
@@ -76,8 +76,9 @@ FORMS = [
     b"create 1 user \"%s\"", b"create 1 user \"a%s", b"create 1 user %s\"a\"", b"create 1 user \"a\"%s", b"create 1 user \"\\%s1\"",
     b"create 1 user \"\\x4%s\"", b"create 1%suser", b"show%s", b"%s", b"#%s", b"%s#", b"object x%s directly", b"object x direct%sly",
     b"object %s by_any", b"edge e user%s photo deep", b"restore expiry%s7", b"crash %s0",
+    b"par workers %s1 turns 1\nlane\nend", b"par workers 1 turns 1\nlane%s\nget 1\nend", b"par workers 1 turns 1\nlane\nget 1%s\nend", b"par workers 1 turns 1\nlane\nen%sd",
 ]
-VALUES = range(256) if "all" in sys.argv else [*range(34), 35, 39, 45, 47, 48, 57, 58, 64, 65, 90, 92, 95, 96, 97, 122, *range(126, 130), 133, 160, 192, 255]
+VALUES = range(256)
 for form in FORMS:
     for value in VALUES:
         agrees(f"byte {value:#x} at {form!r}", lines(form, bytes([value])))
@@ -183,18 +184,22 @@ ok(f"random schemas, {checked} of them checked, with their routes")
 # Very large documents. The time at the whole size is at most three times that at half of it, beyond a tenth of a second.
 FULL = 16_777_216
 start = HEAD + b"script\n"
+LANE = start + b"par workers 0 turns 1\nlane\n"
 KINDS = {
     "one word": (b"", b"x"), "one number": (start + b"work ", b"9"), "one payload": (start + b"create 1 user \"", b"p"), "escapes": (start + b"create 1 user \"", b"\\x00"),
     "the shortest commands": (start, b"show\n"), "comments": (start, b"#\n"), "one comment": (start, b"#"), "blank lines": (start, b"\n"), "blanks": (start, b" "), "CR and LF": (start, b"\r\n"),
     "CR": (start, b"\r"), "unclosed quotes": (start, b"\"\n"), "one quote after another": (start, b"\""), "zeros": (start, b"\0"), "words of one byte": (start + b"show ", b"a "),
     "empty payloads": (start, b"\"\" "), "jobs with a name": (start, b"job 0\n"), "schema lines": (b"schema 1\nwindow 0\n", b"object a directly\n"),
-    "creates": (start, b"create 1 user\n"), "commands with one bad at the end": (start, b"work 1\n"),
+    "creates": (start, b"create 1 user\n"), "commands with one bad at the end": (start, b"work 1\n", b"wort 1\n"),
+    "blocks": (start, b"par workers 0 turns 1\nlane\nend\n"), "one block of short commands": (LANE, b"get 1\n", b"end\n"), "one block without its end": (LANE, b"get 1\n"),
+    "a block of comments": (LANE, b"#\n", b"end\n"), "quotes in a quote": (start + b"create 1 user \"", b"\\\"", b"\"\n"), "quotes in quotes in a quote": (start + b"create 1 user \"", b"\\\\\\\"", b"\"\n"),
+    "quotes in a quote that is not closed": (start + b"create 1 user \"", b"\\\""), "payloads of each byte": (start, b"update 1 \"\\x1f\\x80\\xff\"\n"),
 }
 
 
-def large(front, part, size):
-    """So many whole parts behind the front that the size is reached, then blanks."""
-    return (front + part * ((size - len(front)) // len(part))).ljust(size)
+def large(front, part, end, size):
+    """So many whole parts between front and end that the size is reached, then blanks."""
+    return (front + part * ((size - len(front) - len(end)) // len(part)) + end).ljust(size)
 
 
 def time_of(case, document, wanted):
@@ -206,12 +211,25 @@ def time_of(case, document, wanted):
     return took
 
 
-for case, (front, part) in KINDS.items():
-    # The first fault does not depend on the number of parts, so the slow reader of this script sees a few of them.
-    fault = fault_of(large(front, part, 4096))
-    wanted = (fault, 2) if fault else ("checked 4 types 3 edges\nroute photo owns\n", 0)
-    half, whole = (large(front, part, size) for size in (FULL // 2, FULL))
-    times = [time_of(case, document, wanted) for document in (half, whole)]
+def fault_in(kind, document):
+    """The fault of a large document. The slow reader of this script sees few parts; a fault at the end moves with the lines."""
+    small, more = (large(*kind, size) for size in (4096, 8192))
+    fault = fault_of(small)
+    if fault is None or fault == fault_of(more):
+        return fault
+    lines = [text.count(b"\n") + (not text.endswith(b"\n")) for text in (small, document)]
+    line, text = fault.split(": ", 1)
+    return f"line {int(line.split()[1]) + lines[1] - lines[0]}: {text}"
+
+
+for case, kind in KINDS.items():
+    kind = (*kind, b"")[:3]
+    documents = [large(*kind, size) for size in (FULL // 2, FULL)]
+    whole = documents[1]
+    times = []
+    for document in documents:
+        fault = fault_in(kind, document)
+        times.append(time_of(case, document, (fault, 2) if fault else ("checked 4 types 3 edges\nroute photo owns\n", 0)))
     if times[1] > 3 * times[0] + 0.1:
         wrong(f"{case}: its time", times, "linear")
     over = time_of(case + " and one byte more", whole + b"\n", ("line 0: document too long\n", 2))

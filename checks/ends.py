@@ -1,7 +1,8 @@
 """ends.py DELF: standard input that fails and standard output that closes: status 3 or 4, and the store holds just the commands made.
 
 Run it as `python3 checks/ends.py crates/delf/out/delf`. Standard input is a folder, a closed descriptor, one that is for
-writing alone, and pipes that end in the middle. Standard output takes k bytes and then fails, for each k of a short run.
+writing alone, and pipes that end in the middle. Standard output takes k bytes and then fails, for each k of a short run. With `cc` a
+small library goes between the program and both: each read and each write fails in turn, or moves nothing, also where they move few bytes each.
 """
 import os
 import resource
@@ -152,6 +153,79 @@ for ignored in (True, False):
         if state.length < least:
             wrong(f"a pipe that closes after {k} bytes", state.length, f"at least {least}")
 ok(f"a pipe whose reader goes away: {killed} of the runs ended by its signal, nothing told is lost")
+# Each read and each write fails in turn, whole ones and short ones.
+LIBRARY = r"""
+// Between a program and its standard streams: the read of standard input numbered READ_FAILS fails, and so does the write of standard
+// output numbered WRITE_FAILS; WRITE_ZERO takes nothing. Each moves at most MOST bytes.
+#define _GNU_SOURCE
+#include <dlfcn.h>
+#include <errno.h>
+#include <stdlib.h>
+#include <unistd.h>
+
+static unsigned long reads, writes;
+
+static unsigned long number(const char *name, unsigned long other) { char *text = getenv(name); return text ? strtoul(text, 0, 10) : other; }
+
+static size_t most(size_t size) { size_t bound = number("MOST", size); return size < bound ? size : bound; }
+
+ssize_t read(int fd, void *data, size_t size) {
+    ssize_t (*real)(int, void *, size_t) = dlsym(RTLD_NEXT, "read");
+    if (fd != 0) return real(fd, data, size);
+    if (++reads == number("READ_FAILS", 0)) { errno = EIO; return -1; }
+    return real(fd, data, most(size));
+}
+
+ssize_t write(int fd, const void *data, size_t size) {
+    ssize_t (*real)(int, const void *, size_t) = dlsym(RTLD_NEXT, "write");
+    if (fd != 1) return real(fd, data, size);
+    writes++;
+    if (writes == number("WRITE_FAILS", 0)) { errno = EIO; return -1; }
+    if (writes == number("WRITE_ZERO", 0)) return 0;
+    return real(fd, data, most(size));
+}
+"""
+library = os.path.join(FOLDER, "ends.so")
+try:
+    compiled = subprocess.run(["cc", "-shared", "-fPIC", "-O1", "-x", "c", "-o", library, "-", "-ldl"], input=LIBRARY.encode()).returncode == 0
+except FileNotFoundError:
+    compiled = False
+
+
+def between(**how):
+    """A run with these orders to the library."""
+    folder = empty()
+    environment = dict(os.environ, LD_PRELOAD=library, **{name: str(value) for name, value in how.items()})
+    came, status = run(folder, LONG, env=environment)
+    return folder, came.encode("latin-1"), status
+
+
+# Comments make the document several reads long.
+LONG = SCHEMA + b"# a line that says nothing\n" * 400 + EVERY_KIND + b"show\n"
+for most in (None, 1000, 7, 1) if compiled else ():
+    how = {} if most is None else {"MOST": most}
+    for order in ("READ_FAILS", "WRITE_FAILS", "WRITE_ZERO"):
+        # With few bytes each there are thousands of places: some of them, and the last ones.
+        place, met = 0, 0
+        while True:
+            place += 1 if met < 40 or order != "READ_FAILS" or most not in (7, 1) else 97
+            folder, told, status = between(**how, **{order: place})
+            if status == 0:
+                break
+            met += 1
+            case = f"{order} {place}, {most or 'any number of'} bytes each"
+            if order == "READ_FAILS":
+                untouched(case, folder, status, 3)
+                if told:
+                    wrong(case, told, b"")
+            else:
+                holds(case, folder, told, status)
+            if place > 30_000:
+                wrong(case, place, "an end")
+                break
+        if (told, status) != (text, 0) or met < 2:
+            wrong(f"{order}, {most} bytes each", (met, status, told[-80:]), "the whole text in the end")
+        ok(f"{order} at {met} places, {most or 'any number of'} bytes each")
 if os.path.exists("/dev/full"):
     folder = empty()
     with open("/dev/full", "wb") as full:

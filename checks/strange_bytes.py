@@ -1,9 +1,10 @@
 """strange_bytes.py DELF [ROUNDS]: stores with changed, cut, swapped and invented bytes open, or name the place that the rules name.
 
-Run it as `python3 checks/strange_bytes.py crates/delf/out/delf`. Every byte of both areas of a small store is changed to four
-values, every length is tried, neighbouring records are swapped; each opening is compared with docs/FORMATS.md by the small
+Run it as `python3 checks/strange_bytes.py crates/delf/out/delf`. Every byte of both areas of two small stores is changed to four
+values, every length is tried, each two records are swapped; each opening is compared with docs/FORMATS.md by the small
 reader. A bad store keeps its bytes. ROUNDS more stores have several random changes, over a store with all kinds of entry.
 """
+import itertools
 import os
 import random
 import struct
@@ -59,27 +60,40 @@ is_told("both files exchanged", vault, journal, "bad store journal at 0")
 is_told("a digest", journal, changed(vault, 79, 1), "jobs 1")
 ok("the table")
 
-# Every byte, every length.
-for area, data in (("journal", journal), ("vault", vault)):
-    areas = lambda new: (new, vault) if area == "journal" else (journal, new)
-    for at in range(len(data)):
-        for value in {0x00, 0xA5, 0xFF, data[at] ^ 0xFF} - {data[at]}:
-            opens(f"{area} byte {at} is {value:#x}", *areas(changed(data, at, value)))
-    ok(f"each of {len(data)} bytes of the {area}, with four values")
-    for size in range(len(data)):
-        opens(f"{area} cut to {size}", *areas(data[:size]))
-    ok(f"each shorter length of the {area}")
-    for tail in (b"\0", b"\xa5", b"\xff" * 600, b"\xa5" * 600, data):
-        opens(f"{area} with {len(tail)} bytes behind it", *areas(data + tail))
-    places = gates[area]
-    for first, second, third in zip(places, places[1:], places[2:]):
-        opens(f"{area} records at {first} and {second} swapped",
-              *areas(data[:first] + data[second:third] + data[first:second] + data[third:]))
-        opens(f"{area} record at {first} is missing", *areas(data[:first] + data[second:]))
-        opens(f"{area} record at {first} stands twice", *areas(data[:second] + data[first:]))
-        for lengths in ((0, 0), (1, 0), (2, 0), (2, 1), (0xFFFF, 0xFFFD), (0xFFFFFFFF, 0), (0x7FFFFFFF, 26), (29, 27), (29, 28)):
-            opens(f"{area} record at {first} with lengths {lengths}", *areas(changed(data, first + 1, *struct.pack(">IH", *lengths))))
-    ok(f"tails, swaps, gaps, doubles and lengths of the {area}")
+# Every byte, every length: of the small store, and of one that a restore over an id that was taken again left.
+def all_changes(name, journal, vault, places):
+    for area, data in (("journal", journal), ("vault", vault)):
+        areas = lambda new: (new, vault) if area == "journal" else (journal, new)
+        for at in range(len(data)):
+            for value in {0x00, 0xA5, 0xFF, data[at] ^ 0xFF} - {data[at]}:
+                opens(f"{name}, {area} byte {at} is {value:#x}", *areas(changed(data, at, value)))
+        ok(f"{name}: each of {len(data)} bytes of the {area}, with four values")
+        for size in range(len(data)):
+            opens(f"{name}, {area} cut to {size}", *areas(data[:size]))
+        ok(f"{name}: each shorter length of the {area}")
+        for tail in (b"\0", b"\xa5", b"\xff" * 600, b"\xa5" * 600, data):
+            opens(f"{name}, {area} with {len(tail)} bytes behind it", *areas(data + tail))
+        for size in (9, 10, 100, len(data), 70_000):
+            opens(f"{name}, {area} of {size} zeros", *areas(bytes(size)))
+        pieces = [data[:8]] + [data[at:to] for at, to in zip(places[area], places[area][1:] + [len(data)])]
+        for first, second in itertools.combinations(range(1, len(pieces) - 1), 2):
+            mixed = list(pieces)
+            mixed[first], mixed[second] = pieces[second], pieces[first]
+            opens(f"{name}, {area} records {first} and {second} swapped", *areas(b"".join(mixed)))
+        for first, second in zip(places[area], places[area][1:]):
+            opens(f"{name}, {area} record at {first} is missing", *areas(data[:first] + data[second:]))
+            opens(f"{name}, {area} record at {first} stands twice", *areas(data[:second] + data[first:]))
+            for lengths in ((0, 0), (1, 0), (2, 0), (2, 1), (0xFFFF, 0xFFFD), (0xFFFFFFFF, 0), (0x7FFFFFFF, 26), (29, 27), (29, 28)):
+                opens(f"{name}, {area} record at {first} with lengths {lengths}", *areas(changed(data, first + 1, *struct.pack(">IH", *lengths))))
+        ok(f"{name}: tails, zeros, each swap of two of {len(pieces) - 2} records, gaps, doubles and lengths of the {area}")
+    opens(f"{name}, both files exchanged", vault, journal)
+
+
+all_changes("a deletion", journal, vault, gates)
+folder = empty()
+run(folder, ROW + b'create 2 photo "n"\nrestore 40\nwork 10\n')
+areas = store.load(folder)
+all_changes("an impostor", *areas, store.read_store(store.read_document(ROW)[0], *areas)[1])
 
 # Areas that are large and hold nothing. The files are sparse; the memory is bounded.
 def huge(case, fronts, size, wanted, seconds=120):

@@ -14,7 +14,11 @@ mod loads;
 #[cfg(test)]
 mod openings;
 #[cfg(test)]
+mod outside;
+#[cfg(test)]
 mod reads;
+#[cfg(test)]
+mod reserved;
 #[cfg(test)]
 mod rows;
 #[cfg(test)]

@@ -45,7 +45,7 @@ fn stops(
         stopped(alloc, call, ALL_WRITES)?.as_slice(),
         with_all.as_bytes()
     );
-    for pick in 1..16u64 {
+    for pick in 1..256u64 {
         let text = stopped(alloc, call, pick)?;
         assert!(rt;
             text.as_slice() == with_none.as_bytes() || text.as_slice() == with_all.as_bytes()
