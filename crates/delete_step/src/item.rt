@@ -1,10 +1,11 @@
 //! Which item a step logs.
 ghost use Rattle.std.specs.Prelude.{◌≡◌};
 ghost use Rattle.delf_model.specs.Graph.{edge_at, object_at};
-ghost use Rattle.delf_model.specs.Step.{edge_item, object_item, birth_of};
+ghost use Rattle.delf_model.specs.Step.{edge_item as item_of_row, object_item};
 ghost use Rattle.delete_step.specs.Logging.{logged_by, first_item};
 
-use delf_model::{EdgeKey, EdgeRow, GraphStore, Item, Job, ObjectId, What};
+use delf_model::{EdgeKey, GraphStore, Item, Job, ObjectId, What};
+use job_table::edge_item;
 
 /// The item that a Cut or Erase logs: the row that it erases, and of an edge the births of both ends. None exactly
 /// where the step is another, or the row is not in the graph. Takes no memory.
@@ -46,28 +47,8 @@ fn item_of_object<G: GraphStore>(graph: &G, job: Job, id: ObjectId) -> Option<It
 }
 
 fn item_of_edge<G: GraphStore>(graph: &G, job: Job, key: EdgeKey) -> Option<Item>
-    ensures { result ≡ first_item (edge_item (G.graph graph.now) job (edge_at (G.graph graph.now) key)) }
+    ensures { result ≡ first_item (item_of_row (G.graph graph.now) job (edge_at (G.graph graph.now) key)) }
 {
     let row = graph.edge(key)?;
-    Some(cut_item(graph, job, &row))
-}
-
-fn cut_item<G: GraphStore>(graph: &G, job: Job, row: &EdgeRow) -> Item
-    ensures { Some result ≡ first_item (edge_item (G.graph graph.now) job (Some row.now)) }
-{
-    Item::Edge {
-        job,
-        row: *row,
-        from_birth: birth(graph, row.key.from),
-        to_birth: birth(graph, row.key.to),
-    }
-}
-
-fn birth<G: GraphStore>(graph: &G, id: ObjectId) -> u32
-    ensures { result ≡ birth_of (G.graph graph.now) id }
-{
-    match graph.object(id) {
-        Some(row) => row.birth,
-        None => 0,
-    }
+    Some(edge_item(graph, job, &row))
 }

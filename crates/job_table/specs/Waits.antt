@@ -18,9 +18,6 @@ waits_in rows start = option_and_then waits_of (find (is_start start) rows)
 abbrev pub erased_row : ℕ → Row → Row
 erased_row moment row = record row { last = Some moment }
 
-abbrev pub purged_row : Row → Row
-purged_row row = record row { purged = true }
-
 -- the window after the last erasure of a job that is not purged is over
 abbrev pub has_waited : ℕ → ℕ → JobRow → Bool
 has_waited window moment row = not row.purged && is_some row.last && nat_lt (last_erasure_or_zero row.last + window) moment

@@ -2,29 +2,26 @@
 ghost use Rattle.std.specs.Prelude.{◌≡◌, ◌+◌, ◌-◌, ◌<◌, ◌≤◌, ◌++◌, ◌∷◌, [], true, false, cond, nat_eq, None, ℕ, ◌^◌, length, sum_by, Some, IsTrue, is_none, ◌&&◌};
 ghost use Rattle.delf_model.specs.declared.entry.What.{What};
 ghost use Rattle.delf_model.specs.declared.entry.Entry.{Entry};
-ghost use Rattle.delf_model.specs.Graph.{edge_at, edge_stands, stands};
-ghost use Rattle.delf_model.specs.declared.rows.EdgeRow.{EdgeRow};
 ghost use Rattle.delf_model.specs.State.{State, owner, is_job};
-ghost use Rattle.delf_model.specs.Step.{step, birth_of};
-ghost use Rattle.delf_model.specs.Puts.{judged as judgement_of, end_cause, key_taken};
-ghost use Rattle.std.specs.Option.{option_or};
+ghost use Rattle.delf_model.specs.Step.{step};
 ghost use Rattle.delf_model.specs.Legal.{is_legal};
 ghost use Rattle.job_table.specs.Table.{IsTableOf, IsGraphOf, MayApply, owner_among, owned_among, starts_rise};
 ghost use Rattle.job_table.specs.Owning.{Gains};
 ghost use Rattle.job_table.specs.Parts.{handled_of};
 ghost use Rattle.job_table.specs.Restoring.{AreRestoring};
 ghost use Rattle.delf_model.specs.Step.{unhandled, handled_at};
-ghost use Rattle.job_table.specs.Notes.{noted, noted_start, noted_restore, noted_purge, noted_item, noted_put, with_seat, weight_of, item_weight as weight_of_item, put_weight as weight_of_put, condemns_before, takes_last};
+ghost use Rattle.job_table.specs.Notes.{noted, noted_start, noted_restore, noted_purge, noted_item, noted_put, with_seat, weight_of, item_weight as weight_of_item, put_weight as weight_of_put, condemns_before};
 
+use crate::cuts::cut_item;
 use crate::items::{Handling, Items};
 use crate::jobs::Jobs;
-use crate::legal::job_of;
+use crate::references::{condemns, takes_last_reference};
 use crate::restoring::{Restoring, restoring_at};
 use crate::seats::Seats;
 use crate::table::JobTable;
 use delf_model::{
-    Cause, EdgeKey, EdgeRow, EdgeRule, Entry, GraphStore, Item, Job, JobName, Moment, ObjectId,
-    ObjectRow, Rules, Tag, What,
+    Cause, EdgeKey, Entry, GraphStore, Item, Job, JobName, Moment, ObjectId, ObjectRow, Rules, Tag,
+    What,
 };
 
 impl JobTable {
@@ -314,57 +311,6 @@ impl JobTable {
         }
     }
 
-    /// The judgement of a put of this item: none where its row is put back, else the cause for which it is listed.
-    fn judged<G: GraphStore>(&self, graph: &G, item: &Item) -> Option<Cause>
-        ensures { (s : State) → IsTableOf s self.now → G.graph graph.now ≡ s.graph → result ≡ judgement_of s item.now }
-    {
-        match item {
-            Item::Object { row, .. } => match graph.object(row.id) {
-                Some(found) => Some(Cause::Taken { birth: found.birth }),
-                None => None,
-            },
-            Item::Edge {
-                row,
-                from_birth,
-                to_birth,
-                ..
-            } => self.judged_edge(graph, row, *from_birth, *to_birth),
-        }
-    }
-
-    fn judged_edge<G: GraphStore>(
-        &self,
-        graph: &G,
-        row: &EdgeRow,
-        from_birth: u32,
-        to_birth: u32,
-    ) -> Option<Cause>
-        ensures { (s : State) → IsTableOf s self.now → G.graph graph.now ≡ s.graph → result ≡ option_or (end_cause s row.now.key.from from_birth) (option_or (end_cause s row.now.key.to to_birth) (key_taken (edge_at s.graph row.now.key))) }
-    {
-        if let Some(cause) = self.judged_end(graph, row.key.from, from_birth) {
-            return Some(cause);
-        }
-        if let Some(cause) = self.judged_end(graph, row.key.to, to_birth) {
-            return Some(cause);
-        }
-        match graph.edge(row.key) {
-            Some(found) => Some(Cause::KeyTaken { birth: found.birth }),
-            None => None,
-        }
-    }
-
-    fn judged_end<G: GraphStore>(&self, graph: &G, id: ObjectId, born: u32) -> Option<Cause>
-        ensures { (s : State) → IsTableOf s self.now → G.graph graph.now ≡ s.graph → result ≡ end_cause s id born }
-    {
-        if !stands_born(graph, id, born) {
-            return Some(Cause::EndMissing { id });
-        }
-        match self.owner(id) {
-            Some(job) => Some(Cause::EndCondemned { id, job }),
-            None => None,
-        }
-    }
-
     fn note_passing(&mut self, moment: Moment, job: Job, item: Item, target: ObjectId)
         requires spare { 0 < self.old.spare }
         requires owed { 3 ≤ self.old.owed }
@@ -393,7 +339,7 @@ fn push(items: &mut Items, restoring: &mut Restoring, jobs: &Jobs, item: Item)
     ensures restoring_spare { restoring.old.spare ≤ restoring.new.spare + 1 }
     ensures told { AreRestoring jobs.now.list items.new.list restoring.new.list }
 {
-    let job = job_of(&item);
+    let job = item.job();
     let before = restoring_at(jobs, items, job);
     items.push(item);
     let after = restoring_at(jobs, items, job);
@@ -413,7 +359,7 @@ fn handle(items: &mut Items, restoring: &mut Restoring, jobs: &Jobs, i: u32, how
 {
     match items.get(i) {
         Some(kept) => {
-            let job = job_of(&kept.item);
+            let job = kept.item.job();
             let before = restoring_at(jobs, items, job);
             items.handle(i, how);
             let after = restoring_at(jobs, items, job);
@@ -431,65 +377,6 @@ fn note_seat(seats: &mut Seats, seat: Option<u32>)
 {
     if let Some(seat) = seat {
         seats.push(seat);
-    }
-}
-
-/// Whether the edge condemns its target as it goes: it is deep, or the last reference of a refcount type.
-fn condemns<G: GraphStore>(graph: &G, rules: &Rules, key: &EdgeKey) -> bool
-    ensures { result ≡ condemns_before rules.now (G.counts graph.now) (G.graph graph.now) key.now }
-{
-    match rules.edge(key.edge) {
-        Some(shape) => match shape.rule {
-            EdgeRule::Deep => true,
-            EdgeRule::Shallow => false,
-            EdgeRule::Refcount => graph.ref_count(key.to) == 1,
-        },
-        None => false,
-    }
-}
-
-/// Whether the edge is the last one of a refcount type into its target.
-fn takes_last_reference<G: GraphStore>(graph: &G, rules: &Rules, key: &EdgeKey) -> bool
-    ensures { result ≡ takes_last rules.now (G.counts graph.now) (G.graph graph.now) key.now }
-{
-    match rules.edge(key.edge) {
-        Some(shape) => match shape.rule {
-            EdgeRule::Deep => false,
-            EdgeRule::Shallow => false,
-            EdgeRule::Refcount => graph.ref_count(key.to) == 1,
-        },
-        None => false,
-    }
-}
-
-/// The item that a cut logs.
-fn cut_item<G: GraphStore>(graph: &G, job: Job, key: &EdgeKey) -> Item
-    requires { IsTrue (edge_stands (G.graph graph.now) key.now) }
-    ensures { (row : EdgeRow) → edge_at (G.graph graph.now) key.now ≡ Some row → result ≡ Item.Edge job row (birth_of (G.graph graph.now) row.key.from) (birth_of (G.graph graph.now) row.key.to) }
-{
-    match graph.edge(*key) {
-        Some(row) => edge_item(graph, job, &row),
-        None => unreachable!(),
-    }
-}
-
-fn edge_item<G: GraphStore>(graph: &G, job: Job, row: &EdgeRow) -> Item
-    ensures { result ≡ Item.Edge job row.now (birth_of (G.graph graph.now) row.now.key.from) (birth_of (G.graph graph.now) row.now.key.to) }
-{
-    Item::Edge {
-        job,
-        row: *row,
-        from_birth: birth(graph, row.key.from),
-        to_birth: birth(graph, row.key.to),
-    }
-}
-
-fn stands_born<G: GraphStore>(graph: &G, id: ObjectId, born: u32) -> bool
-    ensures { result ≡ stands (G.graph graph.now) id born }
-{
-    match graph.object(id) {
-        Some(row) => row.birth == born,
-        None => false,
     }
 }
 
@@ -512,14 +399,5 @@ fn put_weight(cause: &Option<Cause>, item: &Item) -> u32
             Item::Object { .. } => 3,
             Item::Edge { .. } => 1,
         },
-    }
-}
-
-fn birth<G: GraphStore>(graph: &G, id: ObjectId) -> u32
-    ensures { result ≡ birth_of (G.graph graph.now) id }
-{
-    match graph.object(id) {
-        Some(row) => row.birth,
-        None => 0,
     }
 }

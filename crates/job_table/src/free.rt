@@ -45,7 +45,8 @@ fn free_in<G: GraphStore>(claims: &Claims, graph: &G, job: Job, id: ObjectId) ->
     }
 }
 
-fn is_touched<G: GraphStore>(graph: &G, id: ObjectId) -> bool
+/// Whether any edge touches the object. Looks at two edges at most.
+pub fn is_touched<G: GraphStore>(graph: &G, id: ObjectId) -> bool
     ensures { result ≡ is_touched_in (G.graph graph.now) id }
 {
     graph.out_at(id, 0).is_some() || graph.in_at(id, 0).is_some()

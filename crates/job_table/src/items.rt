@@ -385,13 +385,11 @@ fn keep_span(spans: &mut HashMap<u32, Span>, job: u32, span: Span)
     }
 }
 
+/// The number of the job that took the row.
 fn job_of(item: &Item) -> u32
     ensures { result ≡ job_of_item item.now }
 {
-    match item {
-        Item::Object { job, .. } => job.0,
-        Item::Edge { job, .. } => job.0,
-    }
+    item.job().0
 }
 
 /// Whether the item is handled, or is no object item of the job with this id and birth.
@@ -447,14 +445,14 @@ fn is_asked(found: &Option<Listed>, left: u32) -> bool
 fn is_unhandled(kept: &Kept, job: Job) -> bool
     ensures { result ≡ is_unhandled_of job (logged_of kept.now) }
 {
-    job_of(&kept.item) == job.0 && kept.handled.is_none()
+    kept.item.job() == job && kept.handled.is_none()
 }
 
 /// Whether the item is one of the job that was not put back.
 fn is_unput(kept: &Kept, job: Job) -> bool
     ensures { result ≡ is_unput_of job (logged_of kept.now) }
 {
-    job_of(&kept.item) == job.0 && !was_put(&kept.handled)
+    kept.item.job() == job && !was_put(&kept.handled)
 }
 
 /// How many lines are still to be passed after one that may be there.
@@ -471,7 +469,7 @@ fn passed(left: u32, found: &Option<Listed>) -> u32
 fn listing(job: Job, i: u32, kept: &Kept) -> Option<Listed>
     ensures { result ≡ listing_of job i (logged_of kept.now) }
 {
-    if job_of(&kept.item) != job.0 {
+    if kept.item.job() != job {
         return None;
     }
     match kept.handled {

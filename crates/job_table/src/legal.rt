@@ -2,7 +2,7 @@
 ghost use Rattle.std.specs.Prelude.{◌≡◌, ◌+◌, Some, nat_le, slice_get, sum_by};
 ghost use Rattle.delf_model.specs.declared.entry.What.{What};
 ghost use Rattle.delf_model.specs.declared.entry.Tag.{Tag};
-ghost use Rattle.delf_model.specs.State.{State, job_of as job_of_item, job_row, find_job, is_job, is_open as is_open_row, is_restored as is_restored_in};
+ghost use Rattle.delf_model.specs.State.{State, job_row, find_job, is_job, is_open as is_open_row, is_restored as is_restored_in};
 ghost use Rattle.delf_model.specs.Room.{owed};
 ghost use Rattle.delf_model.specs.Legal.{is_allowed, may_put as may_put_item, may_purge as may_purge_row, ends_handled as are_ends_handled};
 ghost use Rattle.job_table.specs.Parts.{logged_of, row_of};
@@ -14,15 +14,6 @@ use crate::items::Kept;
 use crate::jobs::{Row, is_past};
 use crate::table::JobTable;
 use delf_model::{Item, Job, Moment, ROOM_LIMIT, Status};
-
-pub(crate) fn job_of(item: &Item) -> Job
-    ensures { result ≡ job_of_item item.now }
-{
-    match item {
-        Item::Object { job, .. } => *job,
-        Item::Edge { job, .. } => *job,
-    }
-}
 
 /// Whether nothing of the job is to be done any more.
 fn is_over(status: Status) -> bool
@@ -46,7 +37,7 @@ impl JobTable {
     {
         match self.items.get(i) {
             Some(kept) => {
-                job_of(&kept.item) == job && self.is_open(&kept) && self.ends_handled(&kept.item)
+                kept.item.job() == job && self.is_open(&kept) && self.ends_handled(&kept.item)
             }
             None => false,
         }
@@ -110,7 +101,7 @@ impl JobTable {
     fn is_open(&self, kept: &Kept) -> bool
         ensures { (s : State) → IsTableOf s self.now → result ≡ is_open_row s.jobs (logged_of kept.now) }
     {
-        kept.handled.is_none() && self.is_restored(job_of(&kept.item))
+        kept.handled.is_none() && self.is_restored(kept.item.job())
     }
 
     fn is_restored(&self, job: Job) -> bool

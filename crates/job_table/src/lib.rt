@@ -3,15 +3,18 @@
 
 mod apply;
 mod claims;
+mod cuts;
 mod ends;
 mod free;
 mod items;
 mod jobs;
+mod judged;
 mod legal;
 mod next;
 mod owners;
 mod payloads;
 mod queue;
+mod references;
 mod restoring;
 mod seats;
 mod serial;
@@ -22,5 +25,8 @@ mod tallies;
 mod tests;
 mod waiting;
 
+pub use cuts::edge_item;
+pub use free::is_touched;
 pub use next::Next;
+pub use references::takes_last_reference;
 pub use table::JobTable;

@@ -2,14 +2,14 @@
 ghost use Rattle.std.specs.Prelude.{◌≡◌, drop, false, Some, None, slice_get};
 ghost use Rattle.delf_model.specs.Payloads.{keeps_payload as keeps_payload_of, is_purged as is_purged_in};
 ghost use Rattle.delf_model.specs.Report.{was_put as was_put_back};
-ghost use Rattle.delf_model.specs.State.{State, Logged, job_of as job_of_item};
+ghost use Rattle.delf_model.specs.State.{State, Logged};
 ghost use Rattle.job_table.specs.Parts.{logged_of};
 ghost use Rattle.job_table.specs.Table.{IsTableOf};
 ghost use Rattle.job_table.specs.Unput.{next_unput as first_unput};
 
 use crate::items::Kept;
 use crate::table::JobTable;
-use delf_model::{Item, Job};
+use delf_model::Job;
 
 impl JobTable {
     /// Whether the payload of the item with this number may still be put back: its job is not purged, and it was not put
@@ -19,7 +19,7 @@ impl JobTable {
         ensures none { (s : State) → IsTableOf s self.now → slice_get s.items i ≡ None → result ≡ false }
     {
         match self.items.get(i) {
-            Some(kept) => !self.is_purged(job_of(&kept.item)) && !was_put(&kept),
+            Some(kept) => !self.is_purged(kept.item.job()) && !was_put(&kept),
             None => false,
         }
     }
@@ -39,15 +39,6 @@ impl JobTable {
             Some(row) => row.purged,
             None => false,
         }
-    }
-}
-
-fn job_of(item: &Item) -> Job
-    ensures { result ≡ job_of_item item.now }
-{
-    match item {
-        Item::Object { job, .. } => *job,
-        Item::Edge { job, .. } => *job,
     }
 }
 

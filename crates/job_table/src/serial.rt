@@ -104,7 +104,7 @@ impl JobTable {
     }
 
     /// Whether an entry may come at this moment: not before the last one, and at most the greatest.
-    fn may_come(&self, moment: Moment) -> bool
+    pub fn may_come(&self, moment: Moment) -> bool
         ensures { (s : State) → IsTableOf s self.now → result ≡ may_come_in s moment }
     {
         self.moment() <= moment && moment <= GREATEST_MOMENT

@@ -8,3 +8,4 @@ mod restores;
 
 pub use calls::judge;
 pub use kinds::{refused_create, refused_delete, refused_link, refused_unlink, refused_update};
+pub use refusals::starts_job;

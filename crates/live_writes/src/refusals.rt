@@ -12,10 +12,10 @@ ghost use Rattle.delf_model.specs.Reply.{too_long as is_too_long, absent as is_a
 ghost use Rattle.job_table.specs.Table.{IsTableOf, IsGraphOf};
 
 use delf_model::{
-    EdgeKey, EdgeNo, EdgeRule, GraphStore, JobName, LIMIT, ObjectId, ObjectRule, ROOM_LIMIT,
-    Refusal, Rules, TypeNo,
+    EdgeKey, EdgeNo, GraphStore, JobName, LIMIT, ObjectId, ObjectRule, ROOM_LIMIT, Refusal, Rules,
+    TypeNo,
 };
-use job_table::JobTable;
+use job_table::{JobTable, takes_last_reference};
 
 pub fn too_long(size: usize) -> Option<Refusal>
     ensures { result ≡ is_too_long size }
@@ -161,17 +161,11 @@ pub fn job_taken(jobs: &JobTable, name: u32) -> Option<Refusal>
 }
 
 /// Whether an unlink of this edge, where it stands, starts a job: it is the last of a refcount type into its target.
+/// Takes no memory.
 pub fn starts_job<G: GraphStore>(graph: &G, rules: &Rules, key: EdgeKey) -> bool
     ensures { (s : State) (name : ℕ) → IsGraphOf s (G.graph graph.now) (G.counts graph.now) rules.now → edge_stands s.graph key ≡ true → result ≡ is_some (unlink_start s key.edge key.from key.to name) }
 {
-    match rules.edge(key.edge) {
-        Some(shape) => match shape.rule {
-            EdgeRule::Deep => false,
-            EdgeRule::Shallow => false,
-            EdgeRule::Refcount => graph.ref_count(key.to) == 1,
-        },
-        None => false,
-    }
+    takes_last_reference(graph, rules, &key)
 }
 
 /// No room for an entry after which so much more is owed.

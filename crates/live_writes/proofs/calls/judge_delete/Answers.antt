@@ -1,0 +1,9 @@
+use Rattle.std.proofs.Common.{ap}
+use Rattle.delf_model.specs.declared.entry.What.TheVariants.{Delete}
+use Rattle.delf_model.specs.Reply.{answered_by}
+use Rattle.live_writes.proofs.calls.judge_delete.Goals as goal
+
+pub returns-in-Some : goal.returns-in-Some
+returns-in-Some g c =
+    λ s moment t i.
+    ap (answered_by (Delete c.args.tag c.args.id c.args.name)) (c.in-Some.ensures s moment c.args.tag t i)
