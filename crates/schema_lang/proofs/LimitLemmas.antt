@@ -19,7 +19,8 @@ use Rattle.schema_lang.specs.declared.row.Row.TheVariants.{Script, Object, Edge}
 use Rattle.schema_lang.specs.Numbers.{is_number, number_value, number_in, is_name_word, name_in}
 use Rattle.schema_lang.specs.Rows.{row_of, why_of, worse, unless, plain_rule, ttl_of, edge_rule, object_row, edge_row, names_why, is_header, window_of}
 use Rattle.schema_lang.specs.Grammar.{with_object, with_edge, empty_schema}
-use Rattle.schema_lang.specs.Spelling.{IsSpellable, FitsObject, FitsEdge, FitsRule}
+use Rattle.delf_model.specs.Checked.{IsExpiry}
+use Rattle.schema_lang.specs.Spelling.{IsSpellable, FitsObject, FitsEdge}
 use Rattle.schema_lang.specs.Forms.{Place, First, Second, Rows, Over, IsWithin}
 use Rattle.schema_lang.proofs.FormLemmas.{raw_number, raw_plain, raw_ttl, raw_edge_rule, object_of, edge_of, raw_object, raw_edge, raw_row, raw_window, after, raw}
 use Rattle.schema_lang.proofs.PrintLemmas.{both_true}
@@ -50,14 +51,14 @@ number_limited least greatest text =
     (λ is fits. let well : (leb least (number_value text) && leb (number_value text) greatest) ≡ true = rw (le-leb least (number_value text) fits.0, le-leb (number_value text) greatest fits.1) refl in cc))
     refl
 
-plain_limited : (text : List ℕ) → Limited FitsRule (raw_plain text) (plain_rule text)
+plain_limited : (text : List ℕ) → Limited IsExpiry (raw_plain text) (plain_rule text)
 plain_limited text =
-    limited_if FitsRule (bytes_eq text (codes "directly")) (Some Directly) _ (Ok Directly) _ (refl, tt)
-    (limited_if FitsRule (bytes_eq text (codes "directly_only")) (Some DirectlyOnly) _ (Ok DirectlyOnly) _ (refl, tt)
-    (limited_if FitsRule (bytes_eq text (codes "by_any")) (Some ByAny) _ (Ok ByAny) _ (refl, tt)
-    (limited_if FitsRule (bytes_eq text (codes "not_deleted")) (Some NotDeleted) None (Ok NotDeleted) (Err Malformed) (refl, tt) refl)))
+    limited_if IsExpiry (bytes_eq text (codes "directly")) (Some Directly) _ (Ok Directly) _ (refl, tt)
+    (limited_if IsExpiry (bytes_eq text (codes "directly_only")) (Some DirectlyOnly) _ (Ok DirectlyOnly) _ (refl, tt)
+    (limited_if IsExpiry (bytes_eq text (codes "by_any")) (Some ByAny) _ (Ok ByAny) _ (refl, tt)
+    (limited_if IsExpiry (bytes_eq text (codes "not_deleted")) (Some NotDeleted) None (Ok NotDeleted) (Err Malformed) (refl, tt) refl)))
 
-ttl_limited : (m : Option ℕ) (r : Result ℕ Why) → Limited (IsBetween 1 7776000) m r → Limited FitsRule (option_map (λ seconds. ShortTtl seconds) m) (ttl_of r)
+ttl_limited : (m : Option ℕ) (r : Result ℕ Why) → Limited (IsBetween 1 7776000) m r → Limited IsExpiry (option_map (λ seconds. ShortTtl seconds) m) (ttl_of r)
 ttl_limited m (Ok seconds) is = (ap (option_map (λ (s : ℕ). ShortTtl s)) is.0, is.1)
 ttl_limited m (Err OutOfRange) is = (ShortTtl is.0, ap (option_map (λ (s : ℕ). ShortTtl s)) is.1, is.2)
 ttl_limited m (Err Malformed) is = ap (option_map (λ (s : ℕ). ShortTtl s)) is
@@ -100,13 +101,13 @@ FitsRow (Object object) = FitsObject object
 FitsRow (Edge edge) = FitsEdge edge
 
 module _ (line : ℕ) (name : List ℕ) (m : Option ObjectRule) where
-  object_ok : (rule : ObjectRule) (wrong : Option Why) → m ≡ Some rule → FitsRule rule → Wronged (is_name_word name) (IsName name) wrong
+  object_ok : (rule : ObjectRule) (wrong : Option Why) → m ≡ Some rule → IsExpiry rule → Wronged (is_name_word name) (IsName name) wrong
       → Limited FitsRow (raw_object line name m) (unless wrong (object_of line name rule))
   object_ok rule None is fits named = (rw (named.0, is) refl, record { name = named.1; rule = fits })
   object_ok rule (Some OutOfRange) is fits named = (object_of line name rule, rw (named.0, is) refl, λ row. named.1 row.name)
   object_ok rule (Some Malformed) is fits named = rw named refl
 
-  object_long : (rule : ObjectRule) (wrong : Option Why) → m ≡ Some rule → (FitsRule rule → ⊥) → Wronged (is_name_word name) (IsName name) wrong
+  object_long : (rule : ObjectRule) (wrong : Option Why) → m ≡ Some rule → (IsExpiry rule → ⊥) → Wronged (is_name_word name) (IsName name) wrong
       → Limited FitsRow (raw_object line name m) (unless (worse wrong (Some OutOfRange)) Script)
   object_long rule None is passes named = (object_of line name rule, rw (named.0, is) refl, λ row. passes row.rule)
   object_long rule (Some OutOfRange) is passes named = (object_of line name rule, rw (named.0, is) refl, λ row. passes row.rule)
@@ -117,7 +118,7 @@ module _ (line : ℕ) (name : List ℕ) (m : Option ObjectRule) where
   object_none (Some OutOfRange) is named = rw (named.0, is) refl
   object_none (Some Malformed) is named = rw named refl
 
-  object_limited : (rule : Result ObjectRule Why) → Limited FitsRule m rule → Limited FitsRow (raw_object line name m) (object_row line name rule)
+  object_limited : (rule : Result ObjectRule Why) → Limited IsExpiry m rule → Limited FitsRow (raw_object line name m) (object_row line name rule)
   object_limited (Ok rule) is = object_ok rule (why_of (name_in name)) is.0 is.1 (name_wronged name)
   object_limited (Err OutOfRange) is = object_long is.0 (why_of (name_in name)) is.1 is.2 (name_wronged name)
   object_limited (Err Malformed) is = object_none (why_of (name_in name)) is (name_wronged name)

@@ -23,7 +23,8 @@ use Rattle.schema_lang.specs.declared.parse.Step.TheVariants.{More}
 use Rattle.schema_lang.specs.Numbers.{is_number, number_value, number_in, name_in}
 use Rattle.schema_lang.specs.Rows.{row_of, is_header, window_of}
 use Rattle.schema_lang.specs.Grammar.{rows, part_of, step_of, line_after, empty_schema}
-use Rattle.schema_lang.specs.Spelling.{IsSpellable, FitsObject, FitsEdge, FitsRule, ReadsAs, spelling, spaced, schema_words, header_words, window_words, object_words, edge_words, object_rule_words, edge_rule_word, objects_from, edges_from, line_behind, printed_schema}
+use Rattle.delf_model.specs.Checked.{IsExpiry}
+use Rattle.schema_lang.specs.Spelling.{IsSpellable, FitsObject, FitsEdge, ReadsAs, spelling, spaced, schema_words, header_words, window_words, object_words, edge_words, object_rule_words, edge_rule_word, objects_from, edges_from, line_behind, printed_schema}
 use Rattle.schema_lang.proofs.WordLemmas.{either_bool}
 use Rattle.schema_lang.proofs.NumberLemmas.{digits_on}
 use Rattle.schema_lang.proofs.PrintLemmas.{IsNamed, AreNamed, both_true, said_spaced, lines_printed}
@@ -83,7 +84,7 @@ name_in_name text name =
     rw (false_from_ne_true (eqb (length text) 0) (λ same. absurd (omega (arith, parts.0, eqb-true _ 0 same))), parts.2, le-leb (length text) 32 parts.1) refl
 
 -- one row
-object_row_back : (line : ℕ) (name : List ℕ) (rule : ObjectRule) → IsName name → FitsRule rule
+object_row_back : (line : ℕ) (name : List ℕ) (rule : ObjectRule) → IsName name → IsExpiry rule
     → row_of line (codes "object" ∷ name ∷ object_rule_words rule) ≡ Ok (Object (record { name = name; rule = rule; line = line }))
 unfolding row_of
 object_row_back line name Directly named fits = rw (name_in_name name named) refl
@@ -102,7 +103,7 @@ edge_row_back line name source target Refcount a b c = rw (name_in_name name a, 
 literal : (word : List ℕ) → 0 < length word → list_all is_name_code word ≡ true → IsNamed word
 literal word some each = record { some = some; each = each }
 
-rule_words_named : (rule : ObjectRule) → FitsRule rule → AllByRecursion IsNamed (object_rule_words rule)
+rule_words_named : (rule : ObjectRule) → IsExpiry rule → AllByRecursion IsNamed (object_rule_words rule)
 rule_words_named Directly fits = (literal (codes "directly") (omega arith) refl, tt)
 rule_words_named DirectlyOnly fits = (literal (codes "directly_only") (omega arith) refl, tt)
 rule_words_named ByAny fits = (literal (codes "by_any") (omega arith) refl, tt)

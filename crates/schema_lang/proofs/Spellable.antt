@@ -24,7 +24,8 @@ use Rattle.schema_lang.specs.Numbers.{is_number, number_value, number_in, name_i
 use Rattle.schema_lang.specs.Rows.{row_of, why_of, worse, unless, plain_rule, ttl_of, edge_rule, object_row, edge_row, names_why, window_of}
 use Rattle.schema_lang.specs.Grammar.{Part, Fault, Gives, rows, part_of, said_at, said_by, step_of, row_at, goes_on, behind_step, with_object, with_edge, at_line, line_after, first_said, owed, header, empty_schema, ◌>>=◌}
 use Rattle.schema_lang.specs.Views.{part_view}
-use Rattle.schema_lang.specs.Spelling.{IsSpellable, FitsObject, FitsEdge, FitsRule}
+use Rattle.delf_model.specs.Checked.{IsExpiry}
+use Rattle.schema_lang.specs.Spelling.{IsSpellable, FitsObject, FitsEdge}
 use Rattle.schema_lang.proofs.PrintLemmas.{both_true}
 
 -- a fact of an Ok
@@ -43,14 +44,14 @@ number_fits least greatest text =
     (λ within. let parts = both_true (leb least (number_value text)) (leb (number_value text) greatest) within in (leb-true least (number_value text) parts.0, leb-true (number_value text) greatest parts.1)) tt)
     tt
 
-plain_fits : (text : List ℕ) → OfOk FitsRule (plain_rule text)
+plain_fits : (text : List ℕ) → OfOk IsExpiry (plain_rule text)
 plain_fits text =
-    of_cond FitsRule (bytes_eq text (codes "directly")) (Ok Directly) _ (λ _. tt)
-    (of_cond FitsRule (bytes_eq text (codes "directly_only")) (Ok DirectlyOnly) _ (λ _. tt)
-    (of_cond FitsRule (bytes_eq text (codes "by_any")) (Ok ByAny) _ (λ _. tt)
-    (of_cond FitsRule (bytes_eq text (codes "not_deleted")) (Ok NotDeleted) (Err Malformed) (λ _. tt) tt)))
+    of_cond IsExpiry (bytes_eq text (codes "directly")) (Ok Directly) _ (λ _. tt)
+    (of_cond IsExpiry (bytes_eq text (codes "directly_only")) (Ok DirectlyOnly) _ (λ _. tt)
+    (of_cond IsExpiry (bytes_eq text (codes "by_any")) (Ok ByAny) _ (λ _. tt)
+    (of_cond IsExpiry (bytes_eq text (codes "not_deleted")) (Ok NotDeleted) (Err Malformed) (λ _. tt) tt)))
 
-ttl_fits : (seconds : Result ℕ Why) → OfOk (λ n. (1 ≤ n) × (n ≤ 7776000)) seconds → OfOk FitsRule (ttl_of seconds)
+ttl_fits : (seconds : Result ℕ Why) → OfOk (λ n. (1 ≤ n) × (n ≤ 7776000)) seconds → OfOk IsExpiry (ttl_of seconds)
 ttl_fits (Ok seconds) fits = fits
 ttl_fits (Err why) fits = tt
 
@@ -80,7 +81,7 @@ unless_fits : (why : Option Why) (row : Row) → (why ≡ None → FitsRow row) 
 unless_fits None row fits = fits refl
 unless_fits (Some why) row fits = tt
 
-object_row_fits : (line : ℕ) (name : List ℕ) (rule : Result ObjectRule Why) → OfOk FitsRule rule → OfOk FitsRow (object_row line name rule)
+object_row_fits : (line : ℕ) (name : List ℕ) (rule : Result ObjectRule Why) → OfOk IsExpiry rule → OfOk FitsRow (object_row line name rule)
 object_row_fits line name (Ok rule) fits = unless_fits (why_of (name_in name)) (Object (record { name = name; rule = rule; line = line })) (λ none. record { name = name_fits name none; rule = fits })
 object_row_fits line name (Err why) fits = unless_fits (worse (why_of (name_in name)) (Some why)) Script (λ _. tt)
 

@@ -2,6 +2,7 @@
 use Rattle.std.specs.Prelude.{◌≡◌, ℕ, ◌≤◌, List, [], ◌∷◌, ◌++◌, length, map, codes, Ok}
 use Rattle.std.specs.List.{flat_map, AllByRecursion}
 use Rattle.std.specs.Fmt.{decimal}
+use Rattle.delf_model.specs.Checked.{IsExpiry}
 use Rattle.delf_model.specs.Names.{IsName}
 use Rattle.delf_model.specs.declared.schema.ObjectRule.{ObjectRule}
 use Rattle.delf_model.specs.declared.schema.ObjectRule.TheVariants.{Directly, DirectlyOnly, ByAny, ShortTtl, NotDeleted}
@@ -52,16 +53,9 @@ schema_words schema = header_words ∷ window_words schema.window ∷ (map objec
 abbrev pub spelling : Schema → List ℕ
 spelling schema = flat_map printed_line (schema_words schema)
 
-abbrev pub FitsRule : ObjectRule → Type 0
-FitsRule Directly = Unit {0}
-FitsRule DirectlyOnly = Unit {0}
-FitsRule ByAny = Unit {0}
-FitsRule (ShortTtl seconds) = (1 ≤ seconds) × (seconds ≤ 7776000)
-FitsRule NotDeleted = Unit {0}
-
 pub record FitsObject (object : ObjectType) : Type 0 where
   pub name : IsName object.name
-  pub rule : FitsRule object.rule
+  pub rule : IsExpiry object.rule
 
 pub record FitsEdge (edge : EdgeType) : Type 0 where
   pub name : IsName edge.name
