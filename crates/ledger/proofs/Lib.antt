@@ -4,3 +4,4 @@ pub mod Changes
 pub mod Entering
 pub mod Holding
 pub mod Judging
+pub mod Sizes

@@ -1,7 +1,7 @@
 -- A ledger: rules and history, with what its calls answer of them.
 use Rattle.std.specs.Prelude.{◌≡◌, ◌≤◌, ◌+◌, ℕ, Bool, true, cond, ◌&&◌, nat_lt, List, [], ◌∷◌, ◌++◌, Option, Some, None, length, slice_get, is_none}
 use Rattle.job_table.specs.Table.{item_at}
-use Rattle.delf_model.specs.declared.call.Cause.{Cause}
+pub use Rattle.payload_laws.specs.Holders.{record_size}
 use Rattle.delf_model.specs.declared.rows.Item.{Item}
 use Rattle.delf_model.specs.declared.call.Call.{Call}
 use Rattle.delf_model.specs.declared.call.Call.TheVariants as call
@@ -12,7 +12,7 @@ use Rattle.delf_model.specs.declared.rows.EdgeKey.{EdgeKey}
 use Rattle.delf_model.specs.declared.rows.ObjectRow.{ObjectRow}
 use Rattle.delf_model.specs.RuleSet.{RuleSet}
 use Rattle.delf_model.specs.Graph.{Change, Same, PutsObject, TakesObject, RewritesObject, PutsEdge, TakesEdge, object_at}
-use Rattle.delf_model.specs.State.{State, owner, size_of, position_of}
+use Rattle.delf_model.specs.State.{State, owner, position_of}
 use Rattle.delf_model.specs.Step.{after, put_change}
 use Rattle.delf_model.specs.Owners.{key_of}
 use Rattle.delf_model.specs.Puts.{judged}
@@ -87,29 +87,6 @@ is_numbered_call rules (call.Link edge from to payload) = nat_lt edge (length ru
 is_numbered_call rules (call.Unlink edge from to name) = true
 is_numbered_call rules (call.Delete id name) = true
 is_numbered_call rules (call.Restore name) = true
-
--- the size of the payload of an entry's record: a new payload has that of the entry, a row that is put back that of its
--- item, and no other record has one
-abbrev pub put_size : Option Cause → Item → ℕ
-put_size None it = size_of it
-put_size (Some cause) it = 0
-
-abbrev pub size_of_put : State → Option Item → ℕ
-size_of_put s None = 0
-size_of_put s (Some it) = put_size (judged s it) it
-
-abbrev pub record_size : State → What → ℕ
-record_size s (Create tag kind id size) = size
-record_size s (Update tag id size) = size
-record_size s (Link tag edge from to size) = size
-record_size s (Unlink tag edge from to name) = 0
-record_size s (Delete tag id name) = 0
-record_size s (Restore tag job) = 0
-record_size s (Expire id) = 0
-record_size s (Cut job edge from to) = 0
-record_size s (Erase job id) = 0
-record_size s (Put job i) = size_of_put s (item_at s i)
-record_size s (Purge job) = 0
 
 -- the position of the payload that an entry puts back: a put whose row comes back, that of its item
 abbrev pub position_of_put : State → Option Item → Option ℕ

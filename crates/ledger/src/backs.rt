@@ -1,6 +1,6 @@
 //! Which position an entry puts back.
 ghost use Rattle.std.specs.Prelude.{◌≡◌};
-ghost use Rattle.delf_model.specs.State.{State, position_of as position_of_item};
+ghost use Rattle.delf_model.specs.State.{State};
 ghost use Rattle.job_table.specs.Table.{IsTableOf};
 ghost use Rattle.ledger.specs.Ledgers.{position_back as position_back_of, position_of_put};
 
@@ -34,20 +34,11 @@ fn put_position<G: GraphStore>(graph: &G, jobs: &JobTable, item: Option<Item>) -
     match item {
         Some(item) => {
             if judge_put(graph, jobs, &item).is_none() {
-                Some(position_of(&item))
+                Some(item.position())
             } else {
                 None
             }
         }
         None => None,
-    }
-}
-
-fn position_of(item: &Item) -> u32
-    ensures { result ≡ position_of_item item.now }
-{
-    match item {
-        Item::Object { row, .. } => row.at,
-        Item::Edge { row, .. } => row.birth,
     }
 }

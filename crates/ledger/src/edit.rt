@@ -1,18 +1,20 @@
 //! What an entry does to the graph, and the size of its record's payload.
-ghost use Rattle.std.specs.Prelude.{◌≡◌, ◌≤◌, ℕ, IsTrue, OnOk};
+ghost use Rattle.std.specs.Prelude.{◌≡◌, ◌≤◌, ℕ, IsTrue, OnOk, cond, is_none, slice_get};
 ghost use Rattle.delf_model.specs.declared.rows.EdgeKey.{EdgeKey};
 ghost use Rattle.delf_model.specs.declared.rows.Item.{Item};
 ghost use Rattle.delf_model.specs.Graph.{changed, Same};
-ghost use Rattle.delf_model.specs.State.{State, size_of as size_of_item};
+ghost use Rattle.delf_model.specs.Room.{greatest_moment};
+ghost use Rattle.delf_model.specs.State.{State, size_of};
 ghost use Rattle.delf_model.specs.Puts.{judged};
-ghost use Rattle.delf_model.specs.Step.{new_object as object_of, due_of, change_of, put_unless, put_of_item};
+ghost use Rattle.delf_model.specs.Step.{new_object as object_of, new_edge as edge_of, due_of, change_of, put_unless, put_of_item};
 ghost use Rattle.job_table.specs.Table.{IsTableOf, IsGraphOf, item_at};
 ghost use Rattle.ledger.specs.Edits.{change_of_edit, CanChange};
-ghost use Rattle.ledger.specs.Ledgers.{has_room_for, record_size as record_size_of, size_of_put};
+ghost use Rattle.ledger.specs.Ledgers.{has_room_for};
+ghost use Rattle.payload_laws.specs.Holders.{record_size as record_size_of, put_size as put_size_of};
 
 use delf_model::{
-    EdgeKey, EdgeRow, Entry, GraphStore, Item, Moment, ObjectId, ObjectRow, ObjectRule, Rules,
-    TypeNo, What,
+    EdgeKey, EdgeNo, EdgeRow, Entry, GraphStore, Item, Moment, ObjectId, ObjectRow, ObjectRule,
+    Rules, TypeNo, What,
 };
 use job_table::JobTable;
 use restorer::judge_put;
@@ -36,7 +38,7 @@ pub(crate) fn edit_of<G: GraphStore>(
     rules: &Rules,
     entry: &Entry,
 ) -> Edit
-    requires { entry.now.moment ≤ 999999999999 }
+    requires { entry.now.moment ≤ greatest_moment }
     ensures { (s : State) → IsTableOf s jobs.now → IsGraphOf s (G.graph graph.now) (G.counts graph.now) rules.now → change_of_edit result ≡ change_of s entry.now.moment entry.now.what }
 {
     let len = jobs.len();
@@ -55,15 +57,7 @@ pub(crate) fn edit_of<G: GraphStore>(
             to,
             size,
             ..
-        } => Edit::PutEdge(EdgeRow {
-            key: EdgeKey {
-                edge: *edge,
-                from: *from,
-                to: *to,
-            },
-            birth: len,
-            size: *size,
-        }),
+        } => Edit::PutEdge(new_edge(len, *edge, *from, *to, *size)),
         What::Unlink { edge, from, to, .. } => Edit::TakeEdge(EdgeKey {
             edge: *edge,
             from: *from,
@@ -92,7 +86,7 @@ fn new_object(
     id: ObjectId,
     size: u16,
 ) -> ObjectRow
-    requires { moment ≤ 999999999999 }
+    requires { moment ≤ greatest_moment }
     ensures { (s : State) → len ≡ s.len → rules.now ≡ s.rules → result ≡ object_of s moment kind id size }
 {
     ObjectRow {
@@ -105,9 +99,20 @@ fn new_object(
     }
 }
 
+/// The row of a new edge.
+fn new_edge(len: u32, edge: EdgeNo, from: ObjectId, to: ObjectId, size: u16) -> EdgeRow
+    ensures { (s : State) → len ≡ s.len → result ≡ edge_of s edge from to size }
+{
+    EdgeRow {
+        key: EdgeKey { edge, from, to },
+        birth: len,
+        size,
+    }
+}
+
 /// The moment from which an object of this annotation expires, where it is created at this moment.
 fn due(rule: Option<ObjectRule>, moment: Moment) -> Moment
-    requires { moment ≤ 999999999999 }
+    requires { moment ≤ greatest_moment }
     ensures { result ≡ due_of rule moment }
 {
     match rule {
@@ -166,33 +171,29 @@ pub(crate) fn record_size<G: GraphStore>(graph: &G, jobs: &JobTable, what: &What
         What::Expire { .. } => 0,
         What::Cut { .. } => 0,
         What::Erase { .. } => 0,
-        What::Put { item, .. } => put_size(graph, jobs, jobs.item_at(*item)),
+        What::Put { item, .. } => put_size(graph, jobs, *item),
         What::Purge { .. } => 0,
     }
 }
 
-/// The size of the payload that a record of a put of this item has.
-fn put_size<G: GraphStore>(graph: &G, jobs: &JobTable, item: Option<Item>) -> u16
-    ensures { (s : State) → IsTableOf s jobs.now → G.graph graph.now ≡ s.graph → result ≡ size_of_put s item }
+/// The size of the payload that a record of a put of the item with this number has.
+fn put_size<G: GraphStore>(graph: &G, jobs: &JobTable, i: u32) -> u16
+    ensures { (s : State) → IsTableOf s jobs.now → G.graph graph.now ≡ s.graph → result ≡ put_size_of s (slice_get s.items i) }
 {
-    match item {
-        Some(item) => {
-            if judge_put(graph, jobs, &item).is_none() {
-                size_of(&item)
-            } else {
-                0
-            }
-        }
+    match jobs.item_at(i) {
+        Some(item) => size_back(graph, jobs, &item),
         None => 0,
     }
 }
 
-fn size_of(item: &Item) -> u16
-    ensures { result ≡ size_of_item item.now }
+/// The size of the payload of an item whose row is put back, and 0 where it is listed.
+fn size_back<G: GraphStore>(graph: &G, jobs: &JobTable, item: &Item) -> u16
+    ensures { (s : State) → IsTableOf s jobs.now → G.graph graph.now ≡ s.graph → result ≡ cond (is_none (judged s item.now)) (size_of item.now) 0 }
 {
-    match item {
-        Item::Object { row, .. } => row.size,
-        Item::Edge { row, .. } => row.size,
+    if judge_put(graph, jobs, item).is_none() {
+        item.size()
+    } else {
+        0
     }
 }
 

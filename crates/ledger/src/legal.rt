@@ -1,16 +1,17 @@
 //! Whether an entry may come next.
-ghost use Rattle.std.specs.Prelude.{◌≡◌, ◌||◌, max, min, is_none, nat_lt, slice_get, is_some};
+ghost use Rattle.std.specs.Prelude.{◌≡◌, ℕ, max, min, is_none, nat_lt, slice_get};
+ghost use Rattle.delf_model.specs.declared.entry.Tag.{Tag};
+ghost use Rattle.delf_model.specs.declared.entry.What.{What};
 ghost use Rattle.delf_model.specs.State.{State, is_owned_by};
 ghost use Rattle.delf_model.specs.Step.{tag_of as tag_of_entry};
-ghost use Rattle.delf_model.specs.Graph.{is_touched as is_touched_in};
 ghost use Rattle.delf_model.specs.Legal.{is_legal as is_legal_entry, is_allowed as is_allowed_entry, is_tag, is_numbered as is_numbered_entry, may_expire as may_expire_object};
 ghost use Rattle.delf_model.specs.Room.{greatest_moment};
 ghost use Rattle.job_table.specs.Table.{IsTableOf, IsGraphOf};
 
 use delf_model::{
-    EdgeKey, Entry, GREATEST_MOMENT, GraphStore, Job, Moment, ObjectId, Rules, Tag, What,
+    EdgeKey, EdgeNo, Entry, GREATEST_MOMENT, GraphStore, Job, Moment, ObjectId, Rules, Tag, What,
 };
-use job_table::JobTable;
+use job_table::{JobTable, is_touched};
 use live_writes::{refused_create, refused_delete, refused_link, refused_unlink, refused_update};
 
 /// The moment of an entry that is made when the clock says `now`.
@@ -29,8 +30,7 @@ pub(crate) fn is_legal<G: GraphStore>(
 ) -> bool
     ensures { (s : State) → IsTableOf s jobs.now → IsGraphOf s (G.graph graph.now) (G.counts graph.now) rules.now → result ≡ is_legal_entry s entry.now }
 {
-    jobs.moment() <= entry.moment
-        && entry.moment <= GREATEST_MOMENT
+    jobs.may_come(entry.moment)
         && is_tagged(jobs, &entry.what)
         && is_numbered(rules, &entry.what)
         && is_allowed(graph, jobs, rules, entry.moment, &entry.what)
@@ -107,28 +107,14 @@ fn is_allowed<G: GraphStore>(
             to,
             size,
             ..
-        } => {
-            let key = EdgeKey {
-                edge: *edge,
-                from: *from,
-                to: *to,
-            };
-            refused_link(graph, jobs, rules, &key, *size as usize).is_none()
-        }
+        } => may_link(graph, jobs, rules, *edge, *from, *to, *size),
         What::Unlink {
             edge,
             from,
             to,
             name,
             ..
-        } => {
-            let key = EdgeKey {
-                edge: *edge,
-                from: *from,
-                to: *to,
-            };
-            refused_unlink(graph, jobs, rules, &key, *name).is_none()
-        }
+        } => may_unlink(graph, jobs, rules, *edge, *from, *to, *name),
         What::Delete { id, name, .. } => refused_delete(graph, jobs, rules, *id, *name).is_none(),
         What::Restore { job, .. } => jobs.may_restore(rules.window(), moment, *job),
         What::Expire { id } => may_expire(graph, jobs, moment, *id),
@@ -137,18 +123,58 @@ fn is_allowed<G: GraphStore>(
             edge,
             from,
             to,
-        } => {
-            let key = EdgeKey {
-                edge: *edge,
-                from: *from,
-                to: *to,
-            };
-            graph.edge(key).is_some() && (owns(jobs, *job, *from) || owns(jobs, *job, *to))
-        }
+        } => may_cut(graph, jobs, *job, *edge, *from, *to),
         What::Erase { job, id } => owns(jobs, *job, *id) && !is_touched(graph, *id),
         What::Put { job, item } => jobs.may_put(*job, *item),
         What::Purge { job } => jobs.may_purge(rules.window(), moment, *job),
     }
+}
+
+/// Whether this edge may be linked.
+fn may_link<G: GraphStore>(
+    graph: &G,
+    jobs: &JobTable,
+    rules: &Rules,
+    edge: EdgeNo,
+    from: ObjectId,
+    to: ObjectId,
+    size: u16,
+) -> bool
+    ensures { (s : State) (moment : ℕ) (tag : Tag) → IsTableOf s jobs.now → IsGraphOf s (G.graph graph.now) (G.counts graph.now) rules.now → result ≡ is_allowed_entry s moment (What.Link tag edge from to size) }
+{
+    let key = EdgeKey { edge, from, to };
+    refused_link(graph, jobs, rules, &key, size as usize).is_none()
+}
+
+/// Whether this edge may be unlinked, under this name for a job that it starts.
+fn may_unlink<G: GraphStore>(
+    graph: &G,
+    jobs: &JobTable,
+    rules: &Rules,
+    edge: EdgeNo,
+    from: ObjectId,
+    to: ObjectId,
+    name: u32,
+) -> bool
+    ensures { (s : State) (moment : ℕ) (tag : Tag) → IsTableOf s jobs.now → IsGraphOf s (G.graph graph.now) (G.counts graph.now) rules.now → result ≡ is_allowed_entry s moment (What.Unlink tag edge from to name) }
+{
+    let key = EdgeKey { edge, from, to };
+    refused_unlink(graph, jobs, rules, &key, name).is_none()
+}
+
+/// Whether the job may cut this edge: it is there, and an end of it is the job's.
+fn may_cut<G: GraphStore>(
+    graph: &G,
+    jobs: &JobTable,
+    job: Job,
+    edge: EdgeNo,
+    from: ObjectId,
+    to: ObjectId,
+) -> bool
+    ensures { (s : State) (moment : ℕ) → IsTableOf s jobs.now → G.graph graph.now ≡ s.graph → result ≡ is_allowed_entry s moment (What.Cut job edge from to) }
+{
+    let key = EdgeKey { edge, from, to };
+    graph.edge(key).is_some() && (owns(jobs, job, from) || owns(jobs, job, to))
 }
 
 /// Whether the object is due at this moment and has no owner.
@@ -169,11 +195,4 @@ fn owns(jobs: &JobTable, job: Job, id: ObjectId) -> bool
         Some(other) => other == job,
         None => false,
     }
-}
-
-/// Whether any edge touches the object.
-fn is_touched<G: GraphStore>(graph: &G, id: ObjectId) -> bool
-    ensures { result ≡ is_touched_in (G.graph graph.now) id }
-{
-    graph.out_at(id, 0).is_some() || graph.in_at(id, 0).is_some()
 }

@@ -1,6 +1,6 @@
 use Rattle.std.proofs.Common.{◌∙◌, ap, sym, refl}
 use Rattle.delf_model.specs.RuleSet.{RuleSet}
-use Rattle.delf_model.specs.declared.entry.What.TheVariants.{Create, Link, Unlink}
+use Rattle.delf_model.specs.declared.entry.What.TheVariants.{Create}
 use Rattle.delf_model.specs.Legal.{is_allowed}
 use Rattle.ledger.proofs.Allowing.{by_refusal}
 use Rattle.ledger.proofs.legal.is_allowed.Goals as goal
@@ -15,16 +15,17 @@ returns-in-Create g c =
 pub returns-in-Link : goal.returns-in-Link
 returns-in-Link g c =
     λ s h i.
-    by_refusal s c.args.moment (Link c.in-Link.tag c.in-Link.edge c.in-Link.from c.in-Link.to c.in-Link.size) c.args.what.now c.refused_link.result _
-    c.is_none-in-Link.result c.is_none-in-Link.ensures
-    (c.refused_link.ensures.refused s c.args.moment c.in-Link.tag h i) refl c.in-Link.is
+    c.may_link.ensures s c.args.moment c.in-Link.tag h i ∙ ap (is_allowed s c.args.moment) (sym c.in-Link.is)
 
 pub returns-in-Unlink : goal.returns-in-Unlink
 returns-in-Unlink g c =
     λ s h i.
-    by_refusal s c.args.moment (Unlink c.in-Unlink.tag c.in-Unlink.edge c.in-Unlink.from c.in-Unlink.to c.in-Unlink.name) c.args.what.now
-    c.refused_unlink.result _ c.is_none-in-Unlink.result c.is_none-in-Unlink.ensures
-    (c.refused_unlink.ensures s c.args.moment c.in-Unlink.tag h i) refl c.in-Unlink.is
+    c.may_unlink.ensures s c.args.moment c.in-Unlink.tag h i ∙ ap (is_allowed s c.args.moment) (sym c.in-Unlink.is)
+
+pub returns-in-Cut : goal.returns-in-Cut
+returns-in-Cut g c =
+    λ s h i.
+    c.may_cut.ensures s c.args.moment h i.graph ∙ ap (is_allowed s c.args.moment) (sym c.in-Cut.is)
 
 pub returns-in-Restore : goal.returns-in-Restore
 returns-in-Restore g c =
