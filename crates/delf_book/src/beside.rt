@@ -3,7 +3,7 @@ ghost use Rattle.delf_model.specs.declared.TheConstants.{LIMIT};
 ghost use Rattle.delf_model.specs.Room.{greatest_moment};
 ghost use Rattle.entry_codec.specs.EntryHead.{IsBounded, IsEntry};
 
-use delf_model::{Entry, LIMIT};
+use delf_model::{Entry, HEAD_LIMIT, LIMIT};
 use entry_codec::write_entry;
 use std::marker::Model;
 
@@ -36,7 +36,7 @@ impl Beside {
         ensures payload { result.payload ≡ payload.now }
     {
         // What is written of it tells that it has a spelling.
-        let _len = write_entry(entry, &mut [0; 128]);
+        let _len = write_entry(entry, &mut [0; HEAD_LIMIT]);
         let mut bytes = [0; LIMIT];
         bytes[..payload.len()].copy_from_slice(payload);
         let what = entry.what;

@@ -1,15 +1,12 @@
 //! What an accepted call is told.
-ghost use Rattle.std.specs.Prelude.{◌≡◌, ℕ, true, length, is_some};
-ghost use Rattle.delf_model.specs.Graph.{edge_stands};
-ghost use Rattle.delf_model.specs.State.{State};
-ghost use Rattle.delf_model.specs.Owners.{unlink_start};
-ghost use Rattle.job_table.specs.Table.{IsGraphOf};
+ghost use Rattle.std.specs.Prelude.{◌≡◌, length};
 ghost use Rattle.delf_book.specs.Books.{given_by, started_by, restored_items, EdgeStands};
 ghost use Rattle.ledger.specs.Ledgers.{state_of};
 
 use crate::answers::Receipt;
-use delf_model::{Call, EdgeKey, EdgeRule, GraphStore, Job, Rules, What};
+use delf_model::{Call, EdgeKey, GraphStore, Job, What};
 use ledger::Ledger;
+use live_writes::starts_job;
 
 /// The bytes that a call brings.
 pub(crate) fn payload_of(call: &Call) -> &[u8]
@@ -88,19 +85,5 @@ fn restored<G: GraphStore>(ledger: &Ledger<G>, what: &What) -> u32
         What::Erase { .. } => 0,
         What::Put { .. } => 0,
         What::Purge { .. } => 0,
-    }
-}
-
-/// Whether an unlink of this edge, where it stands, starts a job: it is the last of a refcount type into its target.
-fn starts_job<G: GraphStore>(graph: &G, rules: &Rules, key: EdgeKey) -> bool
-    ensures { (s : State) (name : ℕ) → IsGraphOf s (G.graph graph.now) (G.counts graph.now) rules.now → edge_stands s.graph key ≡ true → result ≡ is_some (unlink_start s key.edge key.from key.to name) }
-{
-    match rules.edge(key.edge) {
-        Some(shape) => match shape.rule {
-            EdgeRule::Deep => false,
-            EdgeRule::Shallow => false,
-            EdgeRule::Refcount => graph.ref_count(key.to) == 1,
-        },
-        None => false,
     }
 }

@@ -22,7 +22,7 @@ ghost use Rattle.store_laws.specs.Steps.{AreScrubbedBut};
 ghost use Rattle.delf_book.specs.Writing.{Writes, Rests, dead_carriers, IsScrubbed, HasItem, longer, next_payloads};
 
 use delf_disk::{Disk, Failed};
-use delf_model::Entry;
+use delf_model::{Entry, HEAD_LIMIT};
 use entry_codec::write_entry;
 use gate_log::GateLog;
 use vault::Vault;
@@ -62,7 +62,7 @@ pub(crate) fn write_record<D: Disk>(
     ensures kind { SameKind D.told D.honest D.order D.orders disk.old disk.new }
     ensures cause { HasCause (D.faults disk.old) (D.faults disk.new) result }
 {
-    let mut head = [0; 128];
+    let mut head = [0; HEAD_LIMIT];
     let len = write_entry(entry, &mut head);
     journal.append(disk, &head[..len as usize], payload)
 }
