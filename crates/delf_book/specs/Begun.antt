@@ -15,7 +15,7 @@ use Rattle.delete_step.specs.Claims.{ClaimView}
 use Rattle.delf_book.specs.Parts.{Interrupted}
 use Rattle.delf_book.specs.Books.{Booked, state_in, is_reserved, Grew, PayloadsGrew, Stayed, Fell, WasDown, IsCrashSafe, IsDurable}
 use Rattle.delf_book.specs.Claims.{step_of, steps_of, released, IsLogged, IsRead}
-use Rattle.delf_book.specs.Steps.{step_entry, PutsItem, PutsSealed, TellsDamage}
+use Rattle.delf_book.specs.Steps.{step_entry, TakesRoom, PutsItem, PutsSealed, TellsDamage}
 use Rattle.delf_book.specs.Writing.{Rests}
 use Rattle.delf_book.specs.declared.answers.Begun.{Begun}
 use Rattle.delf_book.specs.declared.answers.Begun.TheVariants as begun
@@ -104,6 +104,14 @@ BeginAnswers old now moment (Err (fault.Down len)) = WasDown old now len
 BeginAnswers old now moment (Err fault.OutOfMemory) = BeginLacks old now moment
 BeginAnswers old now moment (Err (fault.DiskFault len)) = InterruptsBegin old now moment len
 BeginAnswers old now moment (Err (fault.Damaged item stored found)) = BeginMeets old now moment item stored found
+
+-- and so does one that is claimed, where it is claimed
+abbrev pub BeginTakesRoom : {G R : Type 0} → Booked G R → Booked G R → ℕ → Result Begun StepFault → Type 0
+BeginTakesRoom old now moment (Ok (begun.Stepped position)) = (what : What) → now.history ≡ old.history ++ step_entry moment what ∷ [] → TakesRoom old now what
+BeginTakesRoom old now moment (Ok (begun.Claimed claim)) = 0 < old.spare → now.spare + 1 ≡ old.spare
+BeginTakesRoom old now moment (Ok (begun.Idle len)) = Unit {0}
+BeginTakesRoom old now moment (Ok (begun.Held n len)) = Unit {0}
+BeginTakesRoom old now moment (Err fault) = Unit {0}
 
 -- nothing was written: each image since the start holds the history and its payloads
 abbrev pub LeavesAlone : {G R : Type 0} → (R → ℕ) → (R → Areas → Type 0) → (R → ℕ → Areas → Type 0) → Booked G R → Booked G R → Type 0

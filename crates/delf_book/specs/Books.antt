@@ -169,6 +169,12 @@ Answers old now moment seat asked (Err (refusal.DiskFault len)) = Interrupts old
 Answers old now moment seat asked (Err refusal) =
     (old.down ≡ false) × (reply (state_in old) moment seat asked ≡ Err refusal) × (now ≡ old)
 
+-- memory is wanting for a call that would be accepted, and for no other
+abbrev pub CallWants : {G R : Type 0} → Booked G R → ℕ → ℕ → Call → Result Receipt Refusal → Type 0
+CallWants old moment seat asked (Err refusal.OutOfMemory) = (what : What) × (reply (state_in old) moment seat asked ≡ Ok what)
+CallWants old moment seat asked (Ok receipt) = Unit {0}
+CallWants old moment seat asked (Err refusal) = Unit {0}
+
 -- an accepted call adds the payload that it brings, and any other leaves them, as `Answers` says
 abbrev pub CallPayloads : {G R : Type 0} → Booked G R → Booked G R → ℕ → ℕ → Call → Result Receipt Refusal → Type 0
 CallPayloads old now moment seat asked (Ok receipt) =

@@ -1,5 +1,5 @@
 -- What a serial step answers, and what it leaves.
-use Rattle.std.specs.Prelude.{◌≡◌, ◌≢◌, ℕ, ◌+◌, ◌<◌, ◌≤◌, false, List, [], Some, None, Result, Ok, Err, length, slice_get}
+use Rattle.std.specs.Prelude.{◌≡◌, ◌≢◌, ℕ, ◌+◌, ◌<◌, ◌≤◌, true, false, List, [], Some, None, Result, Ok, Err, length, slice_get}
 use Rattle.delf_disk.specs.Areas.{Areas}
 use Rattle.delf_disk.specs.Causes.{Rose}
 use Rattle.delf_disk.specs.Moments.{Leaves}
@@ -83,6 +83,15 @@ StepAnswers old now moment (Err (fault.Down len)) = WasDown old now len
 StepAnswers old now moment (Err fault.OutOfMemory) = LacksMemory old now moment
 StepAnswers old now moment (Err (fault.DiskFault len)) = InterruptsStep old now moment len
 StepAnswers old now moment (Err (fault.Damaged item stored found)) = MeetsDamage old now moment item stored found
+
+-- a step for which room is kept takes that of one
+abbrev pub TakesRoom : {G R : Type 0} → Booked G R → Booked G R → What → Type 0
+TakesRoom old now what = is_reserved what ≡ true → 0 < old.spare → now.spare + 1 ≡ old.spare
+
+abbrev pub StepTakesRoom : {G R : Type 0} → Booked G R → Booked G R → ℕ → Result Worked StepFault → Type 0
+StepTakesRoom old now moment (Ok (worked.Stepped position)) = (what : What) → first_step (state_in old) moment ≡ Some what → TakesRoom old now what
+StepTakesRoom old now moment (Ok (worked.Idle len)) = Unit {0}
+StepTakesRoom old now moment (Err fault) = Unit {0}
 
 -- a step that is made brings no payload, and any other answer leaves them, as `StepAnswers` says
 abbrev pub StepPayloads : {G R : Type 0} → Booked G R → Booked G R → ℕ → Result Worked StepFault → Type 0

@@ -3,7 +3,7 @@ ghost use Rattle.std.specs.Prelude.{◌≡◌, ◌+◌, ◌≤◌, ◌<◌, ℕ,
 ghost use Rattle.delf_disk.specs.Plain.{Plain, SameKind};
 ghost use Rattle.delf_model.specs.Room.{moment_of};
 ghost use Rattle.held_laws.specs.Held.{takes_row as takes};
-ghost use Rattle.delf_book.specs.Begun.{BeginAnswers, BeginPayloads, BeginIsSafe, BeginKeepsSeals, MayBegin};
+ghost use Rattle.delf_book.specs.Begun.{BeginAnswers, BeginTakesRoom, BeginPayloads, BeginIsSafe, BeginKeepsSeals, MayBegin};
 ghost use Rattle.delf_book.specs.Books.{state_in};
 ghost use Rattle.delf_book.specs.Claims.{room_for};
 ghost use Rattle.delf_book.specs.Keeping.{HasRoom};
@@ -32,6 +32,7 @@ impl<G: GraphStore, R: Rig> Book<G, R> {
     /// read. `Idle` comes exactly where no step is legal, `Held` exactly where some is and a claim holds each.
     pub fn begin(&mut self, now: Moment) -> Result<Begun, StepFault>
         ensures answer { BeginAnswers self.old self.new (moment_of (state_in self.old) now) result }
+        ensures room { BeginTakesRoom self.old self.new (moment_of (state_in self.old) now) result }
         ensures payloads { Plain (R.Disk.told self.old.rig) (R.Disk.honest self.old.rig)
             → BeginPayloads self.old self.new (moment_of (state_in self.old) now) result }
         ensures crash { Plain (R.Disk.told self.old.rig) (R.Disk.honest self.old.rig)
@@ -89,6 +90,7 @@ impl<G: GraphStore, R: Rig> Book<G, R> {
         requires may { MayBegin self.old entry.now.moment entry.now.what }
         requires at_once { takes entry.now.what ≡ false }
         ensures answer { BeginAnswers self.old self.new entry.now.moment result }
+        ensures room { BeginTakesRoom self.old self.new entry.now.moment result }
         ensures payloads { Plain (R.Disk.told self.old.rig) (R.Disk.honest self.old.rig)
             → BeginPayloads self.old self.new entry.now.moment result }
         ensures crash { Plain (R.Disk.told self.old.rig) (R.Disk.honest self.old.rig)
@@ -141,6 +143,7 @@ impl<G: GraphStore, R: Rig> Book<G, R> {
         requires may { MayBegin self.old entry.now.moment entry.now.what }
         requires takes { takes entry.now.what ≡ true }
         ensures answer { BeginAnswers self.old self.new entry.now.moment result }
+        ensures room { BeginTakesRoom self.old self.new entry.now.moment result }
         ensures payloads { Plain (R.Disk.told self.old.rig) (R.Disk.honest self.old.rig)
             → BeginPayloads self.old self.new entry.now.moment result }
         ensures crash { Plain (R.Disk.told self.old.rig) (R.Disk.honest self.old.rig)
@@ -206,6 +209,7 @@ fn ready_claim<G: GraphStore>(
     ensures room { IfOk result (λ left. HasRoom (room_for left (vec_len claims.old + 1) + 1) ledger.new.spare logs.new.journal logs.new.vault (length logs.new.carriers.items) (vec_capacity logs.new.carriers)) }
     ensures list { IfOk result (λ left. vec_len claims.old + 1 + left ≤ vec_capacity claims.new) }
     ensures spare { IfOk result (λ left. spare ≤ left + 1) }
+    ensures takes { IfOk result (λ left. 0 < spare → left + 1 ≡ spare) }
     ensures unreserved { OnErr result (spare ≡ 0) }
 {
     if spare > 0 {

@@ -2,7 +2,7 @@
 ghost use Rattle.std.specs.Prelude.{◌+◌, ◌*◌, ◌≤◌, length};
 ghost use Rattle.delf_disk.specs.Plain.{Plain, SameKind};
 ghost use Rattle.delf_model.specs.Room.{moment_of};
-ghost use Rattle.delf_book.specs.Books.{Answers, CallIsSafe, CallPayloads, CountsRefusal, HasNumbers, state_in};
+ghost use Rattle.delf_book.specs.Books.{Answers, CallWants, CallIsSafe, CallPayloads, CountsRefusal, HasNumbers, state_in};
 ghost use Rattle.delf_book.specs.Seals.{CallKeepsSeals};
 
 use crate::answers::Receipt;
@@ -22,6 +22,7 @@ impl<G: GraphStore, R: Rig> Book<G, R> {
         requires numbers { HasNumbers self.old.rules call.now }
         requires seat { seat ≤ 64 * (length self.old.history + 1) }
         ensures answer { Answers self.old self.new (moment_of (state_in self.old) now) seat call.now result }
+        ensures wants { CallWants self.old (moment_of (state_in self.old) now) seat call.now result }
         ensures payloads { Plain (R.Disk.told self.old.rig) (R.Disk.honest self.old.rig)
             → CallPayloads self.old self.new (moment_of (state_in self.old) now) seat call.now result }
         ensures crash { Plain (R.Disk.told self.old.rig) (R.Disk.honest self.old.rig)

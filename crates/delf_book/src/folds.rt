@@ -114,6 +114,7 @@ impl<G: GraphStore> Fold<G> {
         ensures history { result.history ≡ self.history }
         ensures store { result.store ≡ self.store }
         ensures held { result.held ≡ [] }
+        ensures spare { result.spare ≡ 0 }
         ensures up { result.down ≡ false }
         ensures beside { result.beside ≡ None }
         ensures rig { result.rig ≡ rig }

@@ -3,7 +3,8 @@ ghost use Rattle.std.specs.Prelude.{◌≡◌, ◌<◌, ◌≤◌, true, ℕ, Li
 ghost use Rattle.delf_disk.specs.declared.area.Area.TheVariants.{Journal as JournalArea};
 ghost use Rattle.delf_disk.specs.Causes.{HasCause};
 ghost use Rattle.delf_disk.specs.Plain.{Plain, SameKind};
-ghost use Rattle.delf_disk.specs.Moments.{Leaves};
+ghost use Rattle.delf_disk.specs.Images.{Same};
+ghost use Rattle.delf_disk.specs.Moments.{Runs, Leaves};
 ghost use Rattle.gate_log.specs.Logs.{StandIn};
 ghost use Rattle.gate_log.specs.Places.{size_in};
 ghost use Rattle.delf_model.specs.declared.TheConstants.{LIMIT};
@@ -50,6 +51,8 @@ pub(crate) fn read_record<D: Disk>(
         → RestIn rules history e (D.may_leave disk.old)
         → Leaves D.moment D.may_leave D.left_since (Rests rules history e) disk.old disk.new }
     ensures seen { Plain (D.told disk.old) (D.honest disk.old) → D.seen disk.new ≡ D.seen disk.old }
+    ensures any_moment { Plain (D.told disk.old) (D.honest disk.old)
+        → Runs D.moment D.may_leave D.left_since Same disk.old disk.new }
 
     ensures kind { SameKind D.told D.honest D.order D.orders disk.old disk.new }
     ensures cause { HasCause (D.faults disk.old) (D.faults disk.new) result }
@@ -81,6 +84,8 @@ pub(crate) fn read_object_at<G: GraphStore, D: Disk>(
         → RestIn rules history e (D.may_leave disk.old)
         → Leaves D.moment D.may_leave D.left_since (Rests rules history e) disk.old disk.new }
     ensures seen { Plain (D.told disk.old) (D.honest disk.old) → D.seen disk.new ≡ D.seen disk.old }
+    ensures any_moment { Plain (D.told disk.old) (D.honest disk.old)
+        → Runs D.moment D.may_leave D.left_since Same disk.old disk.new }
 
     ensures kind { SameKind D.told D.honest D.order D.orders disk.old disk.new }
     ensures cause { HasCause (D.faults disk.old) (D.faults disk.new) result }
@@ -116,6 +121,8 @@ pub(crate) fn read_edge_at<G: GraphStore, D: Disk>(
         → RestIn rules history e (D.may_leave disk.old)
         → Leaves D.moment D.may_leave D.left_since (Rests rules history e) disk.old disk.new }
     ensures seen { Plain (D.told disk.old) (D.honest disk.old) → D.seen disk.new ≡ D.seen disk.old }
+    ensures any_moment { Plain (D.told disk.old) (D.honest disk.old)
+        → Runs D.moment D.may_leave D.left_since Same disk.old disk.new }
 
     ensures kind { SameKind D.told D.honest D.order D.orders disk.old disk.new }
     ensures cause { HasCause (D.faults disk.old) (D.faults disk.new) result }

@@ -1,7 +1,8 @@
 //! Payloads of the graph.
 ghost use Rattle.std.specs.Prelude.{◌≡◌, ◌≤◌, false, ℕ, length, take, drop, is_some, IsTrue, IfOk};
 ghost use Rattle.delf_disk.specs.Plain.{Plain, SameKind};
-ghost use Rattle.delf_disk.specs.Moments.{Leaves};
+ghost use Rattle.delf_disk.specs.Images.{Same};
+ghost use Rattle.delf_disk.specs.Moments.{Runs, Leaves};
 ghost use Rattle.delf_model.specs.declared.TheConstants.{LIMIT};
 ghost use Rattle.delf_model.specs.Graph.{object_at, edge_at};
 ghost use Rattle.delf_model.specs.Payloads.{Payloads, payload_at};
@@ -33,6 +34,10 @@ impl<G: GraphStore, R: Rig> Book<G, R> {
         ensures crash { Plain (R.Disk.told self.old.rig) (R.Disk.honest self.old.rig) → self.old.down ≡ false → (e : Payloads)
             → RestIn self.old.rules self.old.history e (R.Disk.may_leave self.old.rig)
             → Leaves R.Disk.moment R.Disk.may_leave R.Disk.left_since (Rests self.old.rules self.old.history e) self.old.rig self.new.rig }
+        // Nothing is written: the areas read as before, and each image since the start is one of before.
+        ensures seen { Plain (R.Disk.told self.old.rig) (R.Disk.honest self.old.rig) → R.Disk.seen self.new.rig ≡ R.Disk.seen self.old.rig }
+        ensures images { Plain (R.Disk.told self.old.rig) (R.Disk.honest self.old.rig)
+            → Runs R.Disk.moment R.Disk.may_leave R.Disk.left_since Same self.old.rig self.new.rig }
         ensures kind { SameKind R.Disk.told R.Disk.honest R.Disk.order R.Disk.orders self.old.rig self.new.rig }
         ensures cause { CountsFault (R.Disk.faults self.old.rig) (R.Disk.faults self.new.rig) result }
     {
@@ -67,6 +72,10 @@ impl<G: GraphStore, R: Rig> Book<G, R> {
         ensures crash { Plain (R.Disk.told self.old.rig) (R.Disk.honest self.old.rig) → self.old.down ≡ false → (e : Payloads)
             → RestIn self.old.rules self.old.history e (R.Disk.may_leave self.old.rig)
             → Leaves R.Disk.moment R.Disk.may_leave R.Disk.left_since (Rests self.old.rules self.old.history e) self.old.rig self.new.rig }
+        // Nothing is written: the areas read as before, and each image since the start is one of before.
+        ensures seen { Plain (R.Disk.told self.old.rig) (R.Disk.honest self.old.rig) → R.Disk.seen self.new.rig ≡ R.Disk.seen self.old.rig }
+        ensures images { Plain (R.Disk.told self.old.rig) (R.Disk.honest self.old.rig)
+            → Runs R.Disk.moment R.Disk.may_leave R.Disk.left_since Same self.old.rig self.new.rig }
         ensures kind { SameKind R.Disk.told R.Disk.honest R.Disk.order R.Disk.orders self.old.rig self.new.rig }
         ensures cause { CountsFault (R.Disk.faults self.old.rig) (R.Disk.faults self.new.rig) result }
     {

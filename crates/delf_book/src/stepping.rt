@@ -96,6 +96,7 @@ pub(crate) fn step<G: GraphStore, D: Disk>(
     ensures spare { IfOk result (λ left. spare ≤ left + 1) }
     ensures kept { IfOk result (λ left. is_reserved_step entry.now.what ≡ false → spare ≤ left) }
     ensures less { IfOk result (λ left. left ≤ spare) }
+    ensures takes { IfOk result (λ left. is_reserved_step entry.now.what ≡ true → 0 < spare → left + 1 ≡ spare) }
     ensures unreserved { IfStarved result (0 < spare → is_reserved_step entry.now.what ≡ false) }
     ensures unread { IfStarved result (disk.new ≡ disk.old) }
 
@@ -146,6 +147,7 @@ fn ready_step<G: GraphStore>(
     ensures spare { IfOk result (λ left. spare ≤ left + 1) }
     ensures kept { IfOk result (λ left. is_reserved_step what.now ≡ false → spare ≤ left) }
     ensures less { IfOk result (λ left. left ≤ spare) }
+    ensures takes { IfOk result (λ left. is_reserved_step what.now ≡ true → 0 < spare → left + 1 ≡ spare) }
     ensures unreserved { OnErr result (0 < spare → is_reserved_step what.now ≡ false) }
 {
     if spare > 0 && is_reserved(what) {

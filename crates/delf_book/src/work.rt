@@ -5,7 +5,7 @@ ghost use Rattle.delf_model.specs.Room.{moment_of};
 ghost use Rattle.delf_model.specs.Sound.{FirstIsLegal};
 ghost use Rattle.delf_book.specs.Books.{state_in};
 ghost use Rattle.delf_book.specs.Seals.{StepKeepsSeals};
-ghost use Rattle.delf_book.specs.Steps.{StepAnswers, StepIsSafe, StepPayloads, CountsStep};
+ghost use Rattle.delf_book.specs.Steps.{StepAnswers, StepTakesRoom, StepIsSafe, StepPayloads, CountsStep};
 
 use crate::answers::{StepFault, Worked};
 use crate::beside::Beside;
@@ -24,6 +24,7 @@ impl<G: GraphStore, R: Rig> Book<G, R> {
         requires { self.old.held ≡ [] }
         ensures answer { StepAnswers self.old self.new (moment_of (state_in self.old) now) result }
         ensures order { self.old.down ≡ false → FirstIsLegal (state_in self.old) (moment_of (state_in self.old) now) }
+        ensures room { StepTakesRoom self.old self.new (moment_of (state_in self.old) now) result }
         ensures payloads { Plain (R.Disk.told self.old.rig) (R.Disk.honest self.old.rig)
             → StepPayloads self.old self.new (moment_of (state_in self.old) now) result }
         ensures crash { Plain (R.Disk.told self.old.rig) (R.Disk.honest self.old.rig)

@@ -1,9 +1,8 @@
 -- What an entry, a step more and a step less leave of the held steps.
-use Rattle.std.proofs.Common.{◌≡◌, ℕ, ◌≤◌, Bool, true, false, cond, ◌||◌, eqb, List, [], ◌∷◌, ◌++◌, refl, sym, ap, ◌∙◌, subst, arith}
+use Rattle.std.proofs.Common.{◌≡◌, ℕ, ◌≤◌, Bool, true, false, cond, ◌||◌, eqb, List, [], ◌∷◌, ◌++◌, refl, sym, ap, ◌∙◌, arith}
 use Rattle.std.proofs.lemmas.Bool.{or_parts, or_from, false≢true}
 use Rattle.std.proofs.lemmas.Bool.Decides.{nat_tests}
 use Rattle.std.proofs.lemmas.List.Folds.{list_any-append}
-use Rattle.std.specs.List.{list_any}
 use Rattle.delf_model.specs.declared.rows.EdgeKey.{EdgeKey}
 use Rattle.delf_model.specs.declared.entry.Entry.{Entry}
 use Rattle.delf_model.specs.declared.entry.What.{What}
@@ -16,7 +15,7 @@ use Rattle.delf_model.specs.Owners.{key_of}
 use Rattle.delf_model.specs.Legal.{is_legal}
 use Rattle.delf_model.specs.Room.{greatest_moment}
 use Rattle.delf_model.specs.Order.{erases_same, is_held}
-use Rattle.delf_model.proofs.Graphs.{same_key_is, same_key_refl}
+use Rattle.delf_model.proofs.Graphs.{same_key_is, same_key_refl, same_key_along}
 use Rattle.job_table.specs.Table.{given_up, is_erasing}
 use Rattle.held_laws.specs.Held.{takes_row, HeldStepsStay}
 use Rattle.ledger.specs.Held.{MayBeHeld, AreHeld, IsOnceLegal}
@@ -101,3 +100,40 @@ pub is_erasing_of : (what : What) → takes_row what ≡ true → is_erasing wha
 is_erasing_of (Cut job edge from to) takes = same_key_refl (key_of edge from to)
 is_erasing_of (Erase job id) takes = grind (arith, nat_tests)
 is_erasing_of what takes = absurd (false≢true takes)
+
+-- what is given up is held no more, and nothing else goes
+
+eqb_along : (a b c : ℕ) → eqb a b ≡ true → eqb a c ≡ eqb b c
+eqb_along a b c same = grind (arith, nat_tests, same)
+
+erases_along : (a b c : What) → erases_same a b ≡ true → erases_same a c ≡ erases_same b c
+erases_along (Cut job edge from to) (Cut job' edge' from' to') (Cut other edge'' from'' to'') same =
+    same_key_along (key_of edge from to) (key_of edge' from' to') (key_of edge'' from'' to'') same
+erases_along (Cut job edge from to) (Cut job' edge' from' to') c same = refl
+erases_along (Cut job edge from to) b c same = absurd (false≢true same)
+erases_along (Erase job id) (Erase job' id') (Erase other id'') same = eqb_along id id' id'' same
+erases_along (Erase job id) (Erase job' id') c same = refl
+erases_along (Erase job id) b c same = absurd (false≢true same)
+erases_along a b c same = absurd (false≢true same)
+
+held_along : (a b : What) (held : List What) → erases_same a b ≡ true → is_held held a ≡ is_held held b
+held_along a b [] same = refl
+held_along a b (x ∷ xs) same = ap (λ (t : Bool). t || is_held xs a) (erases_along a b x same) ∙ ap (λ (t : Bool). erases_same b x || t) (held_along a b xs same)
+
+pub given_up_free : (s : State) (held : List What) (what : What) → AreHeld s held → is_held (given_up what held) what ≡ false
+given_up_free s [] what are = refl
+given_up_free s (x ∷ xs) what are = by_hit (given_up_free s xs what are.2) (erases_same what x) refl
+  where
+    by_hit : is_held (given_up what xs) what ≡ false → (b : Bool) → erases_same what x ≡ b → is_held (cond b xs (x ∷ given_up what xs)) what ≡ false
+    by_hit less true hit = held_along what x xs hit ∙ are.1
+    by_hit less false miss = or_from (erases_same what x) (is_held (given_up what xs) what) miss less
+
+pub given_up_others : (held : List What) (what other : What) → erases_same what other ≡ false → is_held (given_up what held) other ≡ is_held held other
+given_up_others [] what other apart = refl
+given_up_others (x ∷ xs) what other apart = by_hit (given_up_others xs what other apart) (erases_same what x) refl
+  where
+    by_hit : is_held (given_up what xs) other ≡ is_held xs other → (b : Bool) → erases_same what x ≡ b → is_held (cond b xs (x ∷ given_up what xs)) other ≡ is_held (x ∷ xs) other
+    by_hit less true hit =
+        let missed : erases_same other x ≡ false = erases_same_sym other x ∙ (sym (erases_along what x other hit) ∙ apart) in
+        sym (ap (λ (t : Bool). t || is_held xs other) missed)
+    by_hit less false miss = ap (λ (t : Bool). erases_same other x || t) less

@@ -9,7 +9,7 @@ ghost use Rattle.delf_model.specs.Payloads.{keeps_payload as keeps_payload_of};
 ghost use Rattle.delf_model.specs.Legal.{Legal, is_legal};
 ghost use Rattle.delf_model.specs.Room.{used, owed, greatest_moment};
 ghost use Rattle.delf_model.specs.Reply.{reply};
-ghost use Rattle.delf_model.specs.Order.{first_step, is_held as is_held_in};
+ghost use Rattle.delf_model.specs.Order.{first_step, erases_same, is_held as is_held_in};
 ghost use Rattle.held_laws.specs.Held.{takes_row};
 ghost use Rattle.delf_model.specs.Report.{status as status_of, job_at as line_at, listed_at as listed_of, listed_from, items_of};
 ghost use Rattle.delf_model.specs.Sound.{FirstIsLegal};
@@ -336,7 +336,10 @@ impl<G: GraphStore> Ledger<G> {
     /// Gives a held step up. Takes no memory.
     pub fn give_up(&mut self, step: &What)
         requires { is_held_in self.old.held step.now ≡ true }
-        ensures { self.new ≡ record self.old { held = given_up step.now self.old.held } }
+        ensures same { self.new ≡ record self.old { held = given_up step.now self.old.held } }
+        // Its row is held no more, and every other row is held as before.
+        ensures free { is_held_in self.new.held step.now ≡ false }
+        ensures others { (other : What) → erases_same step.now other ≡ false → is_held_in self.new.held other ≡ is_held_in self.old.held other }
     {
         self.jobs.give_up(step);
     }

@@ -1,4 +1,4 @@
-use Rattle.std.proofs.Common.{◌≡◌, ◌+◌, ◌≤◌, true, false, List, [], ◌∷◌, ◌++◌, Some, refl, vec_len, vec_capacity, sym, ap, ◌∙◌, subst, arith}
+use Rattle.std.proofs.Common.{◌≡◌, ◌+◌, ◌<◌, ◌≤◌, true, false, List, [], ◌∷◌, ◌++◌, Some, refl, vec_len, vec_capacity, sym, ap, ◌∙◌, subst, arith}
 use Rattle.delf_disk.specs.Areas.{Areas}
 use Rattle.delf_disk.proofs.Flags.{was_plain}
 use Rattle.delf_model.specs.declared.entry.Entry.{Entry}
@@ -142,3 +142,6 @@ returns-in-Ok-read_taken-clause-answer g c =
           ∙ ap (λ (b : Booked g.row.G.Denot g.row.R.Denot). record b { held = b.held ++ claim ∷ []; store = now.store; spare = c.in-Ok.left; rig = c.read_taken.new.disk }) c.self.view_is;
       spare = subst (λ (b : Booked g.row.G.Denot g.row.R.Denot). b.spare ≤ c.in-Ok.left + 1) c.self.view_is c.in-Ok.ensures.spare;
     }
+
+pub returns-in-Ok-read_taken-clause-room : goal.returns-in-Ok-read_taken-clause-room
+returns-in-Ok-read_taken-clause-room g c = subst (λ (b : Booked g.row.G.Denot g.row.R.Denot). 0 < b.spare → c.in-Ok.left + 1 ≡ b.spare) c.self.view_is c.in-Ok.ensures.takes

@@ -42,7 +42,7 @@ invariant_of-self g c =
     let new = c.leave.new.claims in
     let step : c.taken_by-what.result ≡ step_of c.args.prepared = c.taken_by-what.ensures ∙ ap taken_by (c.item.ensures.item ∙ ap (λ (x : ClaimView). x.item) c.claim.ensures) in
     let left : c.leave.new.claims.items ≡ without c.args.prepared c.self.inside.claims.items = c.leave.ensures.items ∙ ap (λ (x : ClaimView). without x c.self.inside.claims.items) c.claim-2.ensures in
-    rw c.give_up.ensures (
+    rw c.give_up.ensures.same (
       λ up. absurd (cc (up, c.if-self.true)),
       c.self.invariant.1,
       c.self.invariant.2,
@@ -58,17 +58,17 @@ write_taken-requires-clause-legal g c =
     let l = c.self.inside.ledger in
     let step : c.taken_by-what.result ≡ step_of c.args.prepared = c.taken_by-what.ensures ∙ ap taken_by (c.item.ensures.item ∙ ap (λ (x : ClaimView). x.item) c.claim.ensures) in
     let at : Contains c.self.inside.claims.items c.args.prepared = subst (λ (b : Booked g.row.G.Denot g.row.R.Denot). Contains b.held c.args.prepared) (sym c.self.view_is) c.requires in
-    let m_now : c.moment.result ≡ (after l.rules l.history).moment = c.moment.ensures.value ∙ ap (λ (x : Ledgered g.row.G.Denot). (state_of x).moment) c.give_up.ensures in
+    let m_now : c.moment.result ≡ (after l.rules l.history).moment = c.moment.ensures.value ∙ ap (λ (x : Ledgered g.row.G.Denot). (state_of x).moment) c.give_up.ensures.same in
     let m_is : c.moment_at.result ≡ moment_of (after l.rules l.history) c.args.now = c.moment_at.ensures ∙ ap (λ (k : ℕ). max k (min c.args.now greatest_moment)) m_now in
     let within : (after l.rules l.history).moment ≤ greatest_moment = subst (λ (k : ℕ). k ≤ greatest_moment) m_now c.moment.ensures.within in
-    subst (λ (x : Ledgered g.row.G.Denot). is_legal (state_of x) (record { moment = c.moment_at.result; what = c.taken_by-what.result }) ≡ true) (sym c.give_up.ensures)
+    subst (λ (x : Ledgered g.row.G.Denot). is_legal (state_of x) (record { moment = c.moment_at.result; what = c.taken_by-what.result }) ≡ true) (sym c.give_up.ensures.same)
     (finish_line (after l.rules l.history) l.held c.self.inside.claims.items c.args.prepared c.taken_by-what.result c.moment_at.result c.args.now
     c.held-held.ensures.are c.self.invariant.5.steps at step within m_is)
 
 pub write_taken-requires-clause-free : goal.write_taken-requires-clause-free
 write_taken-requires-clause-free g c =
     let l = c.self.inside.ledger in
-    subst (λ (x : Ledgered g.row.G.Denot). is_held x.held c.taken_by-what.result ≡ false) (sym c.give_up.ensures)
+    subst (λ (x : Ledgered g.row.G.Denot). is_held x.held c.taken_by-what.result ≡ false) (sym c.give_up.ensures.same)
     (given_up_free (after l.rules l.history) l.held c.taken_by-what.result c.held-held.ensures.are)
 
 pub invariant_of-self-in-Ok : goal.invariant_of-self-in-Ok
@@ -79,7 +79,7 @@ invariant_of-self-in-Ok g c =
     let left : c.leave.new.claims.items ≡ without c.args.prepared c.self.inside.claims.items = c.leave.ensures.items ∙ ap (λ (x : ClaimView). without x c.self.inside.claims.items) c.claim-2.ensures in
     let less = claims_less l.rules l.history l.held c.self.inside.spare c.self.inside.claims.items c.leave.new.claims.items (vec_capacity c.self.inside.claims) (vec_capacity c.leave.new.claims) c.args.prepared c.taken_by-what.result
     step left c.leave.ensures.capacity c.self.invariant.5 in
-    let m_now : c.moment.result ≡ (after l.rules l.history).moment = c.moment.ensures.value ∙ ap (λ (x : Ledgered g.row.G.Denot). (state_of x).moment) c.give_up.ensures in
+    let m_now : c.moment.result ≡ (after l.rules l.history).moment = c.moment.ensures.value ∙ ap (λ (x : Ledgered g.row.G.Denot). (state_of x).moment) c.give_up.ensures.same in
     let m_is : c.moment_at.result ≡ moment_of (after l.rules l.history) c.args.now = c.moment_at.ensures ∙ ap (λ (k : ℕ). max k (min c.args.now greatest_moment)) m_now in
     let within : (after l.rules l.history).moment ≤ greatest_moment = subst (λ (k : ℕ). k ≤ greatest_moment) m_now c.moment.ensures.within in
     let entry : Entry = step_entry c.moment_at.result c.taken_by-what.result in
@@ -89,9 +89,9 @@ invariant_of-self-in-Ok g c =
     let e = payloads_in (after l.rules l.history) (g.R.Disk.seen c.self.inside.rested.value) in
     let now = c.write_taken.new.ledger in
     let longer : List Entry = l.history ++ entry ∷ [] in
-    let same_rules : now.rules ≡ l.rules = c.in-Ok.ensures.ok.rules ∙ ap (λ (x : Ledgered g.row.G.Denot). x.rules) c.give_up.ensures in
-    let same_history : now.history ≡ longer = c.in-Ok.ensures.ok.history ∙ ap (λ (x : Ledgered g.row.G.Denot). x.history ++ entry ∷ []) c.give_up.ensures in
-    let same_held : now.held ≡ given_up c.taken_by-what.result l.held = c.in-Ok.ensures.ok.held ∙ ap (λ (x : Ledgered g.row.G.Denot). x.held) c.give_up.ensures in (
+    let same_rules : now.rules ≡ l.rules = c.in-Ok.ensures.ok.rules ∙ ap (λ (x : Ledgered g.row.G.Denot). x.rules) c.give_up.ensures.same in
+    let same_history : now.history ≡ longer = c.in-Ok.ensures.ok.history ∙ ap (λ (x : Ledgered g.row.G.Denot). x.history ++ entry ∷ []) c.give_up.ensures.same in
+    let same_held : now.held ≡ given_up c.taken_by-what.result l.held = c.in-Ok.ensures.ok.held ∙ ap (λ (x : Ledgered g.row.G.Denot). x.held) c.give_up.ensures.same in (
       λ up.
           let kept = c.self.invariant.0 up in
           let old = c.self.inside.logs in
@@ -104,7 +104,7 @@ invariant_of-self-in-Ok g c =
             logs = c.in-Ok.ensures.logs;
             carried = c.in-Ok.ensures.carriers;
             room = c.in-Ok.ensures.room n
-                (subst (λ (x : Ledgered g.row.G.Denot). HasRoom (n + 1) x.spare old.journal old.vault (length old.carriers.items) (vec_capacity old.carriers)) (sym c.give_up.ensures)
+                (subst (λ (x : Ledgered g.row.G.Denot). HasRoom (n + 1) x.spare old.journal old.vault (length old.carriers.items) (vec_capacity old.carriers)) (sym c.give_up.ensures.same)
                 (less_room (room_for c.self.inside.spare (vec_len c.self.inside.claims)) (n + 1) l.spare old.journal old.vault _ _ (omega (arith, one, long, was, is)) kept.room));
             areas = λ next. c.in-Ok.ensures.areas (was_plain c.write_taken.ensures.kind next);
           },
@@ -113,7 +113,7 @@ invariant_of-self-in-Ok g c =
       λ next.
           let here = was_plain c.write_taken.ensures.kind next in
           let areas = (c.self.invariant.0 c.if-self.false).areas here in
-          let durable = subst (λ (x : Ledgered g.row.G.Denot). IsDurable g.R.Disk.may_leave x.rules x.history entry [] c.self.inside.rig c.write_taken.new.disk) c.give_up.ensures (c.in-Ok.ensures.durable here) in
+          let durable = subst (λ (x : Ledgered g.row.G.Denot). IsDurable g.R.Disk.may_leave x.rules x.history entry [] c.self.inside.rig c.write_taken.new.disk) c.give_up.ensures.same (c.in-Ok.ensures.durable here) in
           at_ledger (λ (r : RuleSet) (h : List Entry). KeepsPayloads r h (payloads_in (after r h) (g.R.Disk.seen c.of-rested.result.value)) c.self.inside.down (g.R.Disk.seen c.write_taken.new.disk) (g.R.Disk.seen c.self.inside.opened.value))
           l.rules now.rules longer now.history same_rules same_history
           (subst (λ (x : g.row.R.Denot). KeepsPayloads l.rules longer (payloads_in (after l.rules longer) (g.R.Disk.seen x)) c.self.inside.down (g.R.Disk.seen c.write_taken.new.disk) (g.R.Disk.seen c.self.inside.opened.value)) (sym c.of-rested.ensures)
@@ -127,7 +127,7 @@ invariant_of-self-in-Ok g c =
       λ next.
           let here = was_plain c.write_taken.ensures.kind next in
           let areas = (c.self.invariant.0 c.if-self.false).areas here in
-          let durable = subst (λ (x : Ledgered g.row.G.Denot). IsDurable g.R.Disk.may_leave x.rules x.history entry [] c.self.inside.rig c.write_taken.new.disk) c.give_up.ensures (c.in-Ok.ensures.durable here) in
+          let durable = subst (λ (x : Ledgered g.row.G.Denot). IsDurable g.R.Disk.may_leave x.rules x.history entry [] c.self.inside.rig c.write_taken.new.disk) c.give_up.ensures.same (c.in-Ok.ensures.durable here) in
           let grew = at_ledger (λ (r : RuleSet) (h : List Entry). payloads_in (after r h) (g.R.Disk.seen c.of-rested.result.value) ≡ payloads_after digest (after l.rules l.history) entry [] e)
           l.rules now.rules longer now.history same_rules same_history
           (subst (λ (x : g.row.R.Denot). payloads_in (after l.rules longer) (g.R.Disk.seen x) ≡ payloads_after digest (after l.rules l.history) entry [] e) (sym c.of-rested.ensures)
@@ -151,7 +151,7 @@ invariant_of-self-in-Err g c =
     let entry : Entry = step_entry c.moment_at.result c.taken_by-what.result in
     let e = payloads_in (after l.rules l.history) (g.R.Disk.seen c.self.inside.rested.value) in
     let now = c.write_taken.new.ledger in
-    let still = c.in-Err.ensures.err ∙ c.give_up.ensures in
+    let still = c.in-Err.ensures.err ∙ c.give_up.ensures.same in
     let same_rules : now.rules ≡ l.rules = ap (λ (x : Ledgered g.row.G.Denot). x.rules) still in
     let same_history : now.history ≡ l.history = ap (λ (x : Ledgered g.row.G.Denot). x.history) still in
     let same_held : now.held ≡ given_up c.taken_by-what.result l.held = ap (λ (x : Ledgered g.row.G.Denot). x.held) still in (
@@ -160,7 +160,7 @@ invariant_of-self-in-Err g c =
       λ down next.
           let here = was_plain c.write_taken.ensures.kind next in
           let areas = (c.self.invariant.0 c.if-self.false).areas here in
-          let crash = subst (λ (x : Ledgered g.row.G.Denot). IsCrashSafe g.R.Disk.moment g.R.Disk.may_leave g.R.Disk.left_since x.rules x.history entry [] c.self.inside.rig c.write_taken.new.disk) c.give_up.ensures (c.write_taken.ensures.crash here) in
+          let crash = subst (λ (x : Ledgered g.row.G.Denot). IsCrashSafe g.R.Disk.moment g.R.Disk.may_leave g.R.Disk.left_since x.rules x.history entry [] c.self.inside.rig c.write_taken.new.disk) c.give_up.ensures.same (c.write_taken.ensures.crash here) in
           let rests = rests_with l.rules l.history e c.self.inside.down (g.R.Disk.seen c.self.inside.rig) (g.R.Disk.seen c.self.inside.opened.value) c.if-self.false (c.self.invariant.3 here)
           (g.R.Disk.may_leave c.self.inside.rig) areas.rests in
           at_ledger (λ (r : RuleSet) (h : List Entry). KeepsDown r h (payloads_in (after r h) (g.R.Disk.seen c.self.inside.rested.value)) (Some c.of.result) (g.R.Disk.may_leave c.write_taken.new.disk))
@@ -188,7 +188,7 @@ returns-in-Ok-clause-payloads g c = λ plain.
     let l = c.self.inside.ledger in
     let step : c.taken_by-what.result ≡ step_of c.args.prepared = c.taken_by-what.ensures ∙ ap taken_by (c.item.ensures.item ∙ ap (λ (x : ClaimView). x.item) c.claim.ensures) in
     let at : Contains c.self.inside.claims.items c.args.prepared = subst (λ (b : Booked g.row.G.Denot g.row.R.Denot). Contains b.held c.args.prepared) (sym c.self.view_is) c.requires in
-    let m_now : c.moment.result ≡ (after l.rules l.history).moment = c.moment.ensures.value ∙ ap (λ (x : Ledgered g.row.G.Denot). (state_of x).moment) c.give_up.ensures in
+    let m_now : c.moment.result ≡ (after l.rules l.history).moment = c.moment.ensures.value ∙ ap (λ (x : Ledgered g.row.G.Denot). (state_of x).moment) c.give_up.ensures.same in
     let m_is : c.moment_at.result ≡ moment_of (after l.rules l.history) c.args.now = c.moment_at.ensures ∙ ap (λ (k : ℕ). max k (min c.args.now greatest_moment)) m_now in
     let within : (after l.rules l.history).moment ≤ greatest_moment = subst (λ (k : ℕ). k ≤ greatest_moment) m_now c.moment.ensures.within in
     let entry : Entry = step_entry c.moment_at.result c.taken_by-what.result in
@@ -196,12 +196,12 @@ returns-in-Ok-clause-payloads g c = λ plain.
     c.held-held.ensures.are c.self.invariant.5.steps at step within m_is in
     let e = payloads_in (after l.rules l.history) (g.R.Disk.seen c.self.inside.rested.value) in
     let areas = (c.self.invariant.0 c.if-self.false).areas here in
-    let durable = subst (λ (x : Ledgered g.row.G.Denot). IsDurable g.R.Disk.may_leave x.rules x.history entry [] c.self.inside.rig c.write_taken.new.disk) c.give_up.ensures (c.in-Ok.ensures.durable here) in
+    let durable = subst (λ (x : Ledgered g.row.G.Denot). IsDurable g.R.Disk.may_leave x.rules x.history entry [] c.self.inside.rig c.write_taken.new.disk) c.give_up.ensures.same (c.in-Ok.ensures.durable here) in
     let now = c.write_taken.new.ledger in
     let longer : List Entry = l.history ++ entry ∷ [] in
-    let same_rules : now.rules ≡ l.rules = c.in-Ok.ensures.ok.rules ∙ ap (λ (x : Ledgered g.row.G.Denot). x.rules) c.give_up.ensures in
-    let same_history : now.history ≡ longer = c.in-Ok.ensures.ok.history ∙ ap (λ (x : Ledgered g.row.G.Denot). x.history ++ entry ∷ []) c.give_up.ensures in
-    let same_held : now.held ≡ given_up c.taken_by-what.result l.held = c.in-Ok.ensures.ok.held ∙ ap (λ (x : Ledgered g.row.G.Denot). x.held) c.give_up.ensures in
+    let same_rules : now.rules ≡ l.rules = c.in-Ok.ensures.ok.rules ∙ ap (λ (x : Ledgered g.row.G.Denot). x.rules) c.give_up.ensures.same in
+    let same_history : now.history ≡ longer = c.in-Ok.ensures.ok.history ∙ ap (λ (x : Ledgered g.row.G.Denot). x.history ++ entry ∷ []) c.give_up.ensures.same in
+    let same_held : now.held ≡ given_up c.taken_by-what.result l.held = c.in-Ok.ensures.ok.held ∙ ap (λ (x : Ledgered g.row.G.Denot). x.held) c.give_up.ensures.same in
     let grew = at_ledger (λ (r : RuleSet) (h : List Entry). payloads_in (after r h) (g.R.Disk.seen c.of-rested.result.value) ≡ payloads_after digest (after l.rules l.history) entry [] e)
     l.rules now.rules longer now.history same_rules same_history
     (subst (λ (x : g.row.R.Denot). payloads_in (after l.rules longer) (g.R.Disk.seen x) ≡ payloads_after digest (after l.rules l.history) entry [] e) (sym c.of-rested.ensures)
@@ -222,12 +222,12 @@ returns-in-Ok-clause-crash g c = λ plain.
     subst (λ (b : Booked g.row.G.Denot g.row.R.Denot). Plain (g.R.Disk.told b.rig) (g.R.Disk.honest b.rig)) (sym c.self.view_is) plain in
     let l = c.self.inside.ledger in
     let step : c.taken_by-what.result ≡ step_of c.args.prepared = c.taken_by-what.ensures ∙ ap taken_by (c.item.ensures.item ∙ ap (λ (x : ClaimView). x.item) c.claim.ensures) in
-    let m_now : c.moment.result ≡ (after l.rules l.history).moment = c.moment.ensures.value ∙ ap (λ (x : Ledgered g.row.G.Denot). (state_of x).moment) c.give_up.ensures in
+    let m_now : c.moment.result ≡ (after l.rules l.history).moment = c.moment.ensures.value ∙ ap (λ (x : Ledgered g.row.G.Denot). (state_of x).moment) c.give_up.ensures.same in
     let m_is : c.moment_at.result ≡ moment_of (after l.rules l.history) c.args.now = c.moment_at.ensures ∙ ap (λ (k : ℕ). max k (min c.args.now greatest_moment)) m_now in
     let within : (after l.rules l.history).moment ≤ greatest_moment = subst (λ (k : ℕ). k ≤ greatest_moment) m_now c.moment.ensures.within in
     let entry : Entry = step_entry c.moment_at.result c.taken_by-what.result in
-    let crash = subst (λ (x : Ledgered g.row.G.Denot). IsCrashSafe g.R.Disk.moment g.R.Disk.may_leave g.R.Disk.left_since x.rules x.history entry [] c.self.inside.rig c.write_taken.new.disk) c.give_up.ensures (c.write_taken.ensures.crash here) in
-    let durable = subst (λ (x : Ledgered g.row.G.Denot). IsDurable g.R.Disk.may_leave x.rules x.history entry [] c.self.inside.rig c.write_taken.new.disk) c.give_up.ensures (c.in-Ok.ensures.durable here) in
+    let crash = subst (λ (x : Ledgered g.row.G.Denot). IsCrashSafe g.R.Disk.moment g.R.Disk.may_leave g.R.Disk.left_since x.rules x.history entry [] c.self.inside.rig c.write_taken.new.disk) c.give_up.ensures.same (c.write_taken.ensures.crash here) in
+    let durable = subst (λ (x : Ledgered g.row.G.Denot). IsDurable g.R.Disk.may_leave x.rules x.history entry [] c.self.inside.rig c.write_taken.new.disk) c.give_up.ensures.same (c.in-Ok.ensures.durable here) in
     of_claim view c.args.self.now c.self.view_is c.args.now c.moment_at.result m_is c.taken_by-what.result (step_of c.args.prepared) step
     (λ (b : Booked g.row.G.Denot g.row.R.Denot) (k : ℕ) (w : What).
     IsCrashSafe g.R.Disk.moment g.R.Disk.may_leave g.R.Disk.left_since b.rules b.history (step_entry k w) [] b.rig c.write_taken.new.disk ×
@@ -240,11 +240,11 @@ returns-in-Err-clause-crash g c = λ plain.
     subst (λ (b : Booked g.row.G.Denot g.row.R.Denot). Plain (g.R.Disk.told b.rig) (g.R.Disk.honest b.rig)) (sym c.self.view_is) plain in
     let l = c.self.inside.ledger in
     let step : c.taken_by-what.result ≡ step_of c.args.prepared = c.taken_by-what.ensures ∙ ap taken_by (c.item.ensures.item ∙ ap (λ (x : ClaimView). x.item) c.claim.ensures) in
-    let m_now : c.moment.result ≡ (after l.rules l.history).moment = c.moment.ensures.value ∙ ap (λ (x : Ledgered g.row.G.Denot). (state_of x).moment) c.give_up.ensures in
+    let m_now : c.moment.result ≡ (after l.rules l.history).moment = c.moment.ensures.value ∙ ap (λ (x : Ledgered g.row.G.Denot). (state_of x).moment) c.give_up.ensures.same in
     let m_is : c.moment_at.result ≡ moment_of (after l.rules l.history) c.args.now = c.moment_at.ensures ∙ ap (λ (k : ℕ). max k (min c.args.now greatest_moment)) m_now in
     let within : (after l.rules l.history).moment ≤ greatest_moment = subst (λ (k : ℕ). k ≤ greatest_moment) m_now c.moment.ensures.within in
     let entry : Entry = step_entry c.moment_at.result c.taken_by-what.result in
-    let crash = subst (λ (x : Ledgered g.row.G.Denot). IsCrashSafe g.R.Disk.moment g.R.Disk.may_leave g.R.Disk.left_since x.rules x.history entry [] c.self.inside.rig c.write_taken.new.disk) c.give_up.ensures (c.write_taken.ensures.crash here) in
+    let crash = subst (λ (x : Ledgered g.row.G.Denot). IsCrashSafe g.R.Disk.moment g.R.Disk.may_leave g.R.Disk.left_since x.rules x.history entry [] c.self.inside.rig c.write_taken.new.disk) c.give_up.ensures.same (c.write_taken.ensures.crash here) in
     of_claim view c.args.self.now c.self.view_is c.args.now c.moment_at.result m_is c.taken_by-what.result (step_of c.args.prepared) step
     (λ (b : Booked g.row.G.Denot g.row.R.Denot) (k : ℕ) (w : What).
     IsCrashSafe g.R.Disk.moment g.R.Disk.may_leave g.R.Disk.left_since b.rules b.history (step_entry k w) [] b.rig c.write_taken.new.disk) crash
@@ -257,7 +257,7 @@ returns-in-Ok-clause-seals g c = λ plain.
     let l = c.self.inside.ledger in
     let step : c.taken_by-what.result ≡ step_of c.args.prepared = c.taken_by-what.ensures ∙ ap taken_by (c.item.ensures.item ∙ ap (λ (x : ClaimView). x.item) c.claim.ensures) in
     let at : Contains c.self.inside.claims.items c.args.prepared = subst (λ (b : Booked g.row.G.Denot g.row.R.Denot). Contains b.held c.args.prepared) (sym c.self.view_is) c.requires in
-    let m_now : c.moment.result ≡ (after l.rules l.history).moment = c.moment.ensures.value ∙ ap (λ (x : Ledgered g.row.G.Denot). (state_of x).moment) c.give_up.ensures in
+    let m_now : c.moment.result ≡ (after l.rules l.history).moment = c.moment.ensures.value ∙ ap (λ (x : Ledgered g.row.G.Denot). (state_of x).moment) c.give_up.ensures.same in
     let m_is : c.moment_at.result ≡ moment_of (after l.rules l.history) c.args.now = c.moment_at.ensures ∙ ap (λ (k : ℕ). max k (min c.args.now greatest_moment)) m_now in
     let within : (after l.rules l.history).moment ≤ greatest_moment = subst (λ (k : ℕ). k ≤ greatest_moment) m_now c.moment.ensures.within in
     let entry : Entry = step_entry c.moment_at.result c.taken_by-what.result in
@@ -279,7 +279,7 @@ returns-in-Err-clause-seals g c = λ plain.
     let l = c.self.inside.ledger in
     let step : c.taken_by-what.result ≡ step_of c.args.prepared = c.taken_by-what.ensures ∙ ap taken_by (c.item.ensures.item ∙ ap (λ (x : ClaimView). x.item) c.claim.ensures) in
     let at : Contains c.self.inside.claims.items c.args.prepared = subst (λ (b : Booked g.row.G.Denot g.row.R.Denot). Contains b.held c.args.prepared) (sym c.self.view_is) c.requires in
-    let m_now : c.moment.result ≡ (after l.rules l.history).moment = c.moment.ensures.value ∙ ap (λ (x : Ledgered g.row.G.Denot). (state_of x).moment) c.give_up.ensures in
+    let m_now : c.moment.result ≡ (after l.rules l.history).moment = c.moment.ensures.value ∙ ap (λ (x : Ledgered g.row.G.Denot). (state_of x).moment) c.give_up.ensures.same in
     let m_is : c.moment_at.result ≡ moment_of (after l.rules l.history) c.args.now = c.moment_at.ensures ∙ ap (λ (k : ℕ). max k (min c.args.now greatest_moment)) m_now in
     let within : (after l.rules l.history).moment ≤ greatest_moment = subst (λ (k : ℕ). k ≤ greatest_moment) m_now c.moment.ensures.within in
     let entry : Entry = step_entry c.moment_at.result c.taken_by-what.result in

@@ -1,4 +1,4 @@
-use Rattle.std.proofs.Common.{◌≡◌, ℕ, true, false, List, [], ◌∷◌, ◌++◌, Some, refl, vec_capacity, arith, sym, subst}
+use Rattle.std.proofs.Common.{◌≡◌, ℕ, ◌+◌, ◌<◌, true, false, List, [], ◌∷◌, ◌++◌, Some, refl, vec_capacity, arith, sym, subst}
 use Rattle.std.specs.Prelude.{Err}
 use Rattle.delf_model.specs.declared.entry.Entry.{Entry}
 use Rattle.delf_model.specs.RuleSet.{RuleSet}
@@ -15,7 +15,7 @@ use Rattle.delf_disk.specs.Plain.{Plain}
 use Rattle.delf_model.specs.Step.{after}
 use Rattle.delf_model.specs.Payloads.{Payloads, payloads_after}
 use Rattle.store_laws.specs.Moves.{RestIn}
-use Rattle.delf_book.specs.Books.{Booked, state_in, IsCrashSafe, IsDurable}
+use Rattle.delf_book.specs.Books.{Booked, state_in, is_reserved, IsCrashSafe, IsDurable}
 use Rattle.delf_book.specs.Steps.{PutsSealed, TellsDamage}
 use Rattle.delf_book.specs.Writing.{Rests}
 use Rattle.delf_book.proofs.Halts.{at_hurt, waits_hurt}
@@ -251,3 +251,9 @@ invariant_of-self-in-Err-Failed g c =
       λ plain. read_same l.rules now.rules l.history now.history c.self.inside.claims.items c.self.inside.claims.items (g.R.Disk.seen c.self.inside.rested.value)
           c.step.ensures.rules c.in-Err-Failed.ensures.err refl (c.self.invariant.6 (was_plain c.step.ensures.kind plain)),
     )
+
+pub returns-in-Ok-clause-room : goal.returns-in-Ok-clause-room
+returns-in-Ok-clause-room g c =
+    let view : Booked g.row.G.Denot g.row.R.Denot = (record { rules = c.self.inside.ledger.rules; history = c.self.inside.ledger.history; payloads = payloads_in (after c.self.inside.ledger.rules c.self.inside.ledger.history) (g.R.Disk.seen c.self.inside.rested.value); store = c.self.inside.ledger.store; held = c.self.inside.claims.items; spare = c.self.inside.spare; down = c.self.inside.down; beside = c.self.inside.beside; rig = c.self.inside.rig; opened = c.self.inside.opened.value }) in
+    of_made view c.args.self.now c.self.view_is c.args.entry.now c.step.new.ledger.history c.in-Ok.ensures.ok.history
+    (λ (b : Booked g.row.G.Denot g.row.R.Denot) (x : Entry). is_reserved x.what ≡ true → 0 < b.spare → c.in-Ok.left + 1 ≡ b.spare) c.in-Ok.ensures.takes

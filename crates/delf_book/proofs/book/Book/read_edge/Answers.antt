@@ -1,6 +1,8 @@
 use Rattle.std.proofs.Common.{◌≡◌, ℕ, take, sym, subst}
 use Rattle.delf_disk.specs.Plain.{Plain}
 use Rattle.delf_disk.specs.Areas.{Areas}
+use Rattle.delf_disk.specs.Images.{Same}
+use Rattle.delf_disk.specs.Moments.{Runs}
 use Rattle.delf_disk.proofs.Flags.{was_plain}
 use Rattle.delf_model.specs.Step.{after}
 use Rattle.store_laws.specs.Stores.{Clean}
@@ -104,3 +106,13 @@ invariant_of-self-in-Err g c = (
   c.self.invariant.5,
   λ plain. c.self.invariant.6 (was_plain c.read_edge_at.ensures.kind plain),
 )
+
+pub returns-in-Ok-clause-images : goal.returns-in-Ok-clause-images
+returns-in-Ok-clause-images g c = λ plain.
+    subst (λ (b : Booked g.row.G.Denot g.row.R.Denot). Plain (g.R.Disk.told b.rig) (g.R.Disk.honest b.rig) →
+    Runs g.R.Disk.moment g.R.Disk.may_leave g.R.Disk.left_since Same b.rig c.read_edge_at.new.disk) c.self.view_is (λ here. c.read_edge_at.ensures.any_moment here) plain
+
+pub returns-in-Err-clause-images : goal.returns-in-Err-clause-images
+returns-in-Err-clause-images g c = λ plain.
+    subst (λ (b : Booked g.row.G.Denot g.row.R.Denot). Plain (g.R.Disk.told b.rig) (g.R.Disk.honest b.rig) →
+    Runs g.R.Disk.moment g.R.Disk.may_leave g.R.Disk.left_since Same b.rig c.read_edge_at.new.disk) c.self.view_is (λ here. c.read_edge_at.ensures.any_moment here) plain

@@ -22,7 +22,7 @@ invariant_of-self g c =
     let claims = c.self.inside.claims in
     let new = c.leave.new.claims in
     let step : c.taken_by-step.result ≡ step_of c.args.claim = c.taken_by-step.ensures ∙ ap taken_by c.item.ensures.item in
-    rw c.give_up.ensures (
+    rw c.give_up.ensures.same (
       λ up.
           let kept = c.self.invariant.0 up in
           let fewer = without_fewer c.args.claim claims.items in

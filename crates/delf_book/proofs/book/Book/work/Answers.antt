@@ -1,4 +1,4 @@
-use Rattle.std.proofs.Common.{◌≡◌, ℕ, true, List, [], ◌∷◌, ◌++◌, max, min, Some, refl, vec_capacity, arith, sym, ap, ◌∙◌, subst}
+use Rattle.std.proofs.Common.{◌≡◌, ℕ, ◌+◌, ◌<◌, true, List, [], ◌∷◌, ◌++◌, max, min, Some, refl, vec_capacity, arith, sym, ap, ◌∙◌, subst}
 use Rattle.std.specs.Prelude.{Err}
 use Rattle.delf_model.specs.declared.entry.Entry.{Entry}
 use Rattle.delf_model.specs.RuleSet.{RuleSet}
@@ -17,7 +17,7 @@ use Rattle.delf_model.specs.Room.{greatest_moment, moment_of}
 use Rattle.delf_model.specs.Step.{after}
 use Rattle.delf_model.specs.Payloads.{Payloads, payloads_after}
 use Rattle.store_laws.specs.Moves.{RestIn}
-use Rattle.delf_book.specs.Books.{Booked, state_in, IsCrashSafe, IsDurable}
+use Rattle.delf_book.specs.Books.{Booked, state_in, is_reserved, IsCrashSafe, IsDurable}
 use Rattle.delf_book.specs.Steps.{PutsSealed, TellsDamage, step_entry}
 use Rattle.delf_book.specs.Writing.{Rests}
 use Rattle.delf_book.proofs.Halts.{at_hurt, starved_is, waits_starved, waits_hurt}
@@ -274,3 +274,11 @@ step-requires-clause-up g c =
     let logs = c.self.inside.logs in
     subst (λ (n : ℕ). KeepsUp l.rules l.history (room_for c.self.inside.spare n) l.spare logs.journal logs.vault logs.carriers.items (vec_capacity logs.carriers) (g.R.Disk.told c.self.inside.rig)
     (g.R.Disk.honest c.self.inside.rig) (g.R.Disk.seen c.self.inside.rig) (g.R.Disk.may_leave c.self.inside.rig)) (sym c.len-claims.ensures) (c.self.invariant.0 c.if-self.false)
+
+pub returns-in-Ok-clause-room : goal.returns-in-Ok-clause-room
+returns-in-Ok-clause-room g c =
+    let view : Booked g.row.G.Denot g.row.R.Denot = (record { rules = c.self.inside.ledger.rules; history = c.self.inside.ledger.history; payloads = payloads_in (after c.self.inside.ledger.rules c.self.inside.ledger.history) (g.R.Disk.seen c.self.inside.rested.value); store = c.self.inside.ledger.store; held = c.self.inside.claims.items; spare = c.self.inside.spare; down = c.self.inside.down; beside = c.self.inside.beside; rig = c.self.inside.rig; opened = c.self.inside.opened.value }) in
+    let m_is : c.moment_at-moment.result ≡ moment_of (state_in view) c.args.now =
+    c.moment_at-moment.ensures ∙ ap (λ (k : ℕ). max k (min c.args.now greatest_moment)) c.moment.ensures.value in
+    of_first view c.args.self.now c.self.view_is c.args.now c.moment_at-moment.result m_is c.in-Some.what c.in-Some.ensures.step
+    (λ (b : Booked g.row.G.Denot g.row.R.Denot) (k : ℕ) (w : What). is_reserved w ≡ true → 0 < b.spare → c.in-Ok.left + 1 ≡ b.spare) c.in-Ok.ensures.takes
