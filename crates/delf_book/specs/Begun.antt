@@ -1,7 +1,8 @@
 -- What `begin` and `finish` answer, and what they leave.
 use Rattle.std.specs.Prelude.{◌≡◌, ◌≢◌, ℕ, ◌+◌, ◌<◌, ◌≤◌, true, false, List, [], ◌∷◌, ◌++◌, Some, None, Option, Result, Ok, Err, length, cond}
 use Rattle.delf_disk.specs.Areas.{Areas}
-use Rattle.delf_disk.specs.Moments.{Leaves}
+use Rattle.delf_disk.specs.Images.{Same}
+use Rattle.delf_disk.specs.Moments.{Runs, Leaves}
 use Rattle.delf_model.specs.declared.entry.Entry.{Entry}
 use Rattle.delf_model.specs.declared.entry.What.{What}
 use Rattle.delf_model.specs.State.{State, Logged}
@@ -117,6 +118,14 @@ BeginTakesRoom old now moment (Err fault) = Unit {0}
 abbrev pub LeavesAlone : {G R : Type 0} → (R → ℕ) → (R → Areas → Type 0) → (R → ℕ → Areas → Type 0) → Booked G R → Booked G R → Type 0
 LeavesAlone at may_leave left_since old now =
     (e : Payloads) → RestIn old.rules old.history e (may_leave old.rig) → Leaves at may_leave left_since (Rests old.rules old.history e) old.rig now.rig
+
+-- where a row is claimed, the areas read as before, and each image since the start is one of before
+abbrev pub ClaimOnlyReads : {R : Type 0} → (R → Areas) → (R → ℕ) → (R → Areas → Type 0) → (R → ℕ → Areas → Type 0) → R → R → Result Begun StepFault → Type 0
+ClaimOnlyReads seen at may_leave left_since old now (Ok (begun.Stepped position)) = Unit {0}
+ClaimOnlyReads seen at may_leave left_since old now (Ok (begun.Claimed claim)) = (seen now ≡ seen old) × Runs at may_leave left_since Same old now
+ClaimOnlyReads seen at may_leave left_since old now (Ok (begun.Idle len)) = Unit {0}
+ClaimOnlyReads seen at may_leave left_since old now (Ok (begun.Held n len)) = Unit {0}
+ClaimOnlyReads seen at may_leave left_since old now (Err fault) = Unit {0}
 
 -- where each payload of the restoration log is the one that was sealed, so it is with this entry more
 abbrev pub StaysSealed : {G R : Type 0} → Booked G R → Entry → Type 0

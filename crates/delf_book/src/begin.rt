@@ -3,7 +3,7 @@ ghost use Rattle.std.specs.Prelude.{◌≡◌, ◌+◌, ◌≤◌, ◌<◌, ℕ,
 ghost use Rattle.delf_disk.specs.Plain.{Plain, SameKind};
 ghost use Rattle.delf_model.specs.Room.{moment_of};
 ghost use Rattle.held_laws.specs.Held.{takes_row as takes};
-ghost use Rattle.delf_book.specs.Begun.{BeginAnswers, BeginTakesRoom, BeginPayloads, BeginIsSafe, BeginKeepsSeals, MayBegin};
+ghost use Rattle.delf_book.specs.Begun.{BeginAnswers, BeginTakesRoom, BeginPayloads, BeginIsSafe, BeginKeepsSeals, ClaimOnlyReads, MayBegin};
 ghost use Rattle.delf_book.specs.Books.{state_in};
 ghost use Rattle.delf_book.specs.Claims.{room_for};
 ghost use Rattle.delf_book.specs.Keeping.{HasRoom};
@@ -37,6 +37,8 @@ impl<G: GraphStore, R: Rig> Book<G, R> {
             → BeginPayloads self.old self.new (moment_of (state_in self.old) now) result }
         ensures crash { Plain (R.Disk.told self.old.rig) (R.Disk.honest self.old.rig)
             → BeginIsSafe R.Disk.moment R.Disk.may_leave R.Disk.left_since self.old self.new (moment_of (state_in self.old) now) result }
+        ensures reads { Plain (R.Disk.told self.old.rig) (R.Disk.honest self.old.rig)
+            → ClaimOnlyReads R.Disk.seen R.Disk.moment R.Disk.may_leave R.Disk.left_since self.old.rig self.new.rig result }
         ensures seals { Plain (R.Disk.told self.old.rig) (R.Disk.honest self.old.rig)
             → BeginKeepsSeals self.old self.new (moment_of (state_in self.old) now) result }
         ensures kind { SameKind R.Disk.told R.Disk.honest R.Disk.order R.Disk.orders self.old.rig self.new.rig }
@@ -95,6 +97,8 @@ impl<G: GraphStore, R: Rig> Book<G, R> {
             → BeginPayloads self.old self.new entry.now.moment result }
         ensures crash { Plain (R.Disk.told self.old.rig) (R.Disk.honest self.old.rig)
             → BeginIsSafe R.Disk.moment R.Disk.may_leave R.Disk.left_since self.old self.new entry.now.moment result }
+        ensures reads { Plain (R.Disk.told self.old.rig) (R.Disk.honest self.old.rig)
+            → ClaimOnlyReads R.Disk.seen R.Disk.moment R.Disk.may_leave R.Disk.left_since self.old.rig self.new.rig result }
         ensures seals { Plain (R.Disk.told self.old.rig) (R.Disk.honest self.old.rig)
             → BeginKeepsSeals self.old self.new entry.now.moment result }
         ensures kind { SameKind R.Disk.told R.Disk.honest R.Disk.order R.Disk.orders self.old.rig self.new.rig }
@@ -148,6 +152,8 @@ impl<G: GraphStore, R: Rig> Book<G, R> {
             → BeginPayloads self.old self.new entry.now.moment result }
         ensures crash { Plain (R.Disk.told self.old.rig) (R.Disk.honest self.old.rig)
             → BeginIsSafe R.Disk.moment R.Disk.may_leave R.Disk.left_since self.old self.new entry.now.moment result }
+        ensures reads { Plain (R.Disk.told self.old.rig) (R.Disk.honest self.old.rig)
+            → ClaimOnlyReads R.Disk.seen R.Disk.moment R.Disk.may_leave R.Disk.left_since self.old.rig self.new.rig result }
         ensures seals { Plain (R.Disk.told self.old.rig) (R.Disk.honest self.old.rig)
             → BeginKeepsSeals self.old self.new entry.now.moment result }
         ensures kind { SameKind R.Disk.told R.Disk.honest R.Disk.order R.Disk.orders self.old.rig self.new.rig }

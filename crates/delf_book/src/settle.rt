@@ -1,5 +1,5 @@
 //! Room that is kept ready, and areas with no payload behind their closed gates.
-ghost use Rattle.std.specs.Prelude.{◌≡◌, ◌≤◌, false, OnOk};
+ghost use Rattle.std.specs.Prelude.{◌≡◌, ◌≤◌, ◌<◌, false, OnOk, OnErr};
 ghost use Rattle.delf_disk.specs.Areas.{Areas};
 ghost use Rattle.delf_disk.specs.Plain.{Plain, SameKind};
 ghost use Rattle.delf_disk.specs.Moments.{Leaves};
@@ -22,6 +22,8 @@ impl<G: GraphStore, R: Rig> Book<G, R> {
     /// memory.
     pub fn reserve(&mut self, n: u32) -> Result<(), AllocError>
         ensures ok { OnOk result (n ≤ self.new.spare) }
+        // Room that is kept already is not wanting.
+        ensures wants { OnErr result (self.old.spare < n) }
         ensures same { Stayed self.old self.new }
     {
         if n <= self.spare {

@@ -1,5 +1,8 @@
 use Rattle.std.proofs.Common.{◌≡◌, ◌+◌, ◌<◌, ◌≤◌, true, false, List, [], ◌∷◌, ◌++◌, Some, refl, vec_len, vec_capacity, sym, ap, ◌∙◌, subst, arith}
 use Rattle.delf_disk.specs.Areas.{Areas}
+use Rattle.delf_disk.specs.Images.{Same}
+use Rattle.delf_disk.specs.Moments.{Runs}
+use Rattle.delf_disk.specs.Plain.{Plain}
 use Rattle.delf_disk.proofs.Flags.{was_plain}
 use Rattle.delf_model.specs.declared.entry.Entry.{Entry}
 use Rattle.delf_model.specs.declared.entry.What.{What}
@@ -145,3 +148,9 @@ returns-in-Ok-read_taken-clause-answer g c =
 
 pub returns-in-Ok-read_taken-clause-room : goal.returns-in-Ok-read_taken-clause-room
 returns-in-Ok-read_taken-clause-room g c = subst (λ (b : Booked g.row.G.Denot g.row.R.Denot). 0 < b.spare → c.in-Ok.left + 1 ≡ b.spare) c.self.view_is c.in-Ok.ensures.takes
+
+pub returns-in-Ok-read_taken-clause-reads : goal.returns-in-Ok-read_taken-clause-reads
+returns-in-Ok-read_taken-clause-reads g c = λ plain.
+    subst (λ (b : Booked g.row.G.Denot g.row.R.Denot). Plain (g.R.Disk.told b.rig) (g.R.Disk.honest b.rig) →
+    (g.R.Disk.seen c.read_taken.new.disk ≡ g.R.Disk.seen b.rig) × Runs g.R.Disk.moment g.R.Disk.may_leave g.R.Disk.left_since Same b.rig c.read_taken.new.disk) c.self.view_is
+    (λ here. (c.read_taken.ensures.seen here, c.read_taken.ensures.any_moment here)) plain
