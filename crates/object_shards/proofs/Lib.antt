@@ -6,4 +6,5 @@ pub mod Halves
 pub mod Moments
 pub mod Leasts
 pub mod ById
+pub mod Joined
 pub mod Expiring

@@ -4,4 +4,6 @@ pub mod Blocks
 pub mod DueRows
 pub mod Table
 pub mod InsideTable
+pub mod Tables
+pub mod ObjectTables
 pub mod ObjectShards

@@ -8,6 +8,7 @@ mod rows;
 mod shard;
 mod shards;
 mod table;
+mod tables;
 #[cfg(test)]
 mod tests;
 

@@ -1,22 +1,23 @@
-//! The object rows of a graph: by hashed id, with an order of those that expire.
+//! The object rows of a graph: in sixteen tables by id, with an order of those that expire.
 ghost use Rattle.std.specs.Prelude.{◌≡◌, filter};
 ghost use Rattle.object_shards.specs.DueRows.{due_rows_of};
+ghost use Rattle.object_shards.specs.ObjectTables.{table_rows_of};
 ghost use Rattle.object_shards.specs.Rows.{expires};
 
 use crate::due_rows::DueRows;
-use crate::table::ObjectTable;
+use crate::tables::ObjectTables;
 use delf_model::{Moment, ObjectId, ObjectRow};
 use std::alloc::{AllocError, Global};
 
 /// The object rows of a graph by rising id. A look-up takes a few steps, however many there are; what asks for a due takes a
-/// number that grows with the logarithm of how many expire. `ready_object` goes over all rows where the table has to grow,
-/// and `objects` sorts them.
+/// number that grows with the logarithm of how many expire. `ready_object` goes over a sixteenth of all rows where a table has
+/// to grow, and `objects` sorts all.
 #[derive(Drop)]
 pub struct ObjectShards {
-    table: ObjectTable,
+    tables: ObjectTables,
     // A second time the rows of those that expire.
     dues: DueRows,
-    ghost agree: { due_rows_of dues ≡ filter expires table.rows },
+    ghost agree: { due_rows_of dues ≡ filter expires (table_rows_of tables) },
 }
 
 impl ObjectShards {
@@ -30,7 +31,7 @@ impl ObjectShards {
         ensures { IfOk result (λ shards. objects_of shards ≡ []) }
     {
         Ok(ObjectShards {
-            table: ObjectTable::empty(alloc),
+            tables: ObjectTables::empty(alloc)?,
             dues: DueRows::empty(alloc)?,
         })
     }
@@ -39,7 +40,7 @@ impl ObjectShards {
     pub fn object(&self, id: ObjectId) -> Option<ObjectRow>
         ensures { result ≡ find (has_id id) (objects_of self.now) }
     {
-        self.table.row(id)
+        self.tables.row(id)
     }
 
     /// The least id above `after` whose due is above 0 and at most this moment.
@@ -53,7 +54,7 @@ impl ObjectShards {
     pub fn objects(&self, alloc: Global) -> Result<Vec<ObjectRow>, AllocError>
         ensures { IfOk result (λ rows. rows.items ≡ objects_of self.now) }
     {
-        self.table.rows(alloc)
+        self.tables.rows(alloc)
     }
 
     /// Makes room for an object with this id, so that it can be put without memory. The only error is want of memory. Rows stay, whatever
@@ -63,7 +64,7 @@ impl ObjectShards {
         ensures ready { OnOk result (IsTrue (is_ready self.new id)) }
         ensures kept { (other : ℕ) → IsTrue (is_ready self.old other) → IsTrue (is_ready self.new other) }
     {
-        self.table.ready()?;
+        self.tables.ready(id)?;
         self.dues.ready(id)
     }
 
@@ -73,7 +74,7 @@ impl ObjectShards {
         requires ready { IsTrue (is_ready self.old row.id) }
         ensures { objects_of self.new ≡ with_row row (objects_of self.old) }
     {
-        self.table.put(&row);
+        self.tables.put(&row);
         if row.due == 0 {
             return;
         }
@@ -85,7 +86,7 @@ impl ObjectShards {
         requires { IsTrue (is_some (find (has_id id) (objects_of self.old))) }
         ensures { objects_of self.new ≡ map (rewritten id at size) (objects_of self.old) }
     {
-        self.table.rewrite(id, at, size);
+        self.tables.rewrite(id, at, size);
         self.dues.rewrite(id, at, size);
     }
 
@@ -95,6 +96,6 @@ impl ObjectShards {
         ensures objects { objects_of self.new ≡ filter (is_other_object id) (objects_of self.old) }
     {
         self.dues.take(id);
-        self.table.take(id)
+        self.tables.take(id)
     }
 }
