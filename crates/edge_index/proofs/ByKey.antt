@@ -5,8 +5,8 @@ use Rattle.std.proofs.lemmas.Grind.{common_steps}
 use Rattle.std.proofs.lemmas.Map.{keys-set_value}
 use Rattle.std.proofs.lemmas.Map.Keys.{sorted_head, sorted_tail, sorted_from_all_adjacent, apart_from_distinct}
 use Rattle.std.specs.Prelude.{is_some, slice_index_or}
-use Rattle.std.specs.Cmp.{IsTotalOrder}
-use Rattle.std.specs.List.{AllByRecursion, IsDistinct, AllZip}
+use Rattle.std.specs.Cmp.{IsTotalOrder, IsEquivalence}
+use Rattle.std.specs.List.{AllByRecursion, IsDistinct}
 use Rattle.std.specs.List.Sorted.{IsStrictlySortedBy, IsSorted}
 use Rattle.std.specs.Map.{keys_of, set_value, remove_entry}
 use Rattle.std.specs.BTreeMap.{is_at, insert_entry}
@@ -17,7 +17,7 @@ use Rattle.delf_model.specs.Graph.{same_key, key_before}
 use Rattle.delf_model.proofs.Graphs.{same_key_is, same_key_refl, same_key_sym}
 use Rattle.edge_index.specs.declared.links.Link.{Link}
 use Rattle.edge_index.specs.Keys.{edge_cmp, edge_eq}
-use Rattle.edge_index.specs.Links.{Entry, by_key, found, link_at, has_room}
+use Rattle.edge_index.specs.Links.{Entry, by_key, found, link_at, link_home, has_room}
 use Rattle.edge_index.proofs.Keys.{edge_equal, edge_same, edge_less, before_less, before_along, before_or_after}
 use Rattle.edge_index.proofs.Rows.{Sorted}
 
@@ -231,6 +231,17 @@ by_key_found (e ∷ es) q =
 pub by_key_is : (table es : List Entry) → Sorted es → ((q : EdgeKey) → found table q ≡ link_at es q) → by_key table ≡ es
 by_key_is table es rise same = same_entries (by_key table) es (by_key_rise table) rise (λ q. by_key_found table q ∙ same q)
 
+pub edge_laws : IsEquivalence edge_eq
+edge_laws = record {
+  refl = λ k. sym (edge_same k k) ∙ self k;
+  symm = λ a b. sym (edge_same a b) ∙ (turned a b ∙ edge_same b a);
+  congr = λ a b c same. ap (λ (k : EdgeKey). edge_eq k c) (one a b (edge_same a b ∙ same));
+}
+
+-- equal keys have one shard
+pub homes : (a b : EdgeKey) → edge_eq a b ≡ true → link_home a ≡ link_home b
+homes a b same = ap link_home (one a b (edge_same a b ∙ same))
+
 -- what a table has after one key is written or taken out
 abbrev pub Changed : List Entry → List Entry → EdgeKey → Option (Option Link) → Type 0
 Changed old new key link = (q : EdgeKey) → found new q ≡ cond (edge_eq key q) link (found old q)
@@ -306,24 +317,3 @@ sorted_is table sorted order distinct same =
         seen : (es : List Entry) → found es q ≡ link_at es q
         seen [] = refl
         seen (e ∷ es) = ap (λ (b : Bool). cond b (Some e.1) (found es q)) (sym (edge_same q e.0)) ∙ ap (cond (is_eq (edge_cmp q e.0)) (Some e.1)) (seen es)
-
--- a copy whose keys and links are copies is the same
-
-links_cloned : (D : Option Link → Option Link → Type 0) → ((w : Link) → D None (Some w) → ⊥) → ((v : Link) → D (Some v) None → ⊥) →
-    ((v w : Link) → D (Some v) (Some w) → w ≡ v) → (x y : Option Link) → D x y → y ≡ x
-links_cloned D more less same None None d = refl
-links_cloned D more less same None (Some w) d = absurd (more w d)
-links_cloned D more less same (Some v) None d = absurd (less v d)
-links_cloned D more less same (Some v) (Some w) d = ap (λ (link : Link). Some link) (same v w d)
-
-entries_cloned : (C : EdgeKey → EdgeKey → Type 0) (D : Option Link → Option Link → Type 0) → ((x y : EdgeKey) → C x y → y ≡ x) →
-    ((x y : Option Link) → D x y → y ≡ x) → (es fs : List Entry) → AllZip (λ p q. C p.0 q.0 × D p.1 q.1) es fs → fs ≡ es
-entries_cloned C D keys links [] [] all = refl
-entries_cloned C D keys links [] (f ∷ fs) all = absurd all
-entries_cloned C D keys links (e ∷ es) [] all = absurd all
-entries_cloned C D keys links (e ∷ es) (f ∷ fs) all =
-    ap (λ (x : Entry). x ∷ fs) (λ i. (keys e.0 f.0 all.0.0 i, links e.1 f.1 all.0.1 i)) ∙ ap (λ (rest : List Entry). e ∷ rest) (entries_cloned C D keys links es fs all.1)
-
-pub entries_copied : (C : EdgeKey → EdgeKey → Type 0) (D : Option Link → Option Link → Type 0) (es fs : List Entry) → AllZip (λ p q. C p.0 q.0 × D p.1 q.1) es fs →
-    ((x y : EdgeKey) → C x y → y ≡ x) → ((w : Link) → D None (Some w) → ⊥) → ((v : Link) → D (Some v) None → ⊥) → ((v w : Link) → D (Some v) (Some w) → w ≡ v) → fs ≡ es
-entries_copied C D es fs all keys more less same = entries_cloned C D keys (links_cloned D more less same) es fs all

@@ -1,5 +1,5 @@
 -- The counts beside the links, as an edge comes or goes.
-use Rattle.std.proofs.Common.{◌≡◌, ℕ, ◌+◌, ◌<◌, Bool, true, false, cond, ◌&&◌, ◌||◌, Option, Some, None, List, [], ◌∷◌, refl, sym, ap, subst, ◌∙◌, arith}
+use Rattle.std.proofs.Common.{◌≡◌, ◌%◌, ℕ, ◌+◌, ◌<◌, Bool, true, false, cond, ◌&&◌, ◌||◌, Option, Some, None, List, [], ◌∷◌, refl, sym, ap, subst, ◌∙◌, arith}
 use Rattle.std.proofs.lemmas.Bool.{eq-eqb, and_parts, and_from}
 use Rattle.std.proofs.lemmas.Grind.{common_steps}
 use Rattle.std.specs.Prelude.{find, filter, count_by, nat_eq, is_some, if◌then◌else◌}
@@ -12,12 +12,12 @@ use Rattle.delf_model.proofs.Graphs.{same_key_is}
 use Rattle.delf_model.proofs.Sums.{count_found}
 use Rattle.edge_index.specs.declared.links.Link.{Link}
 use Rattle.edge_index.specs.Links.{Entry, rows_of, row_in, row_found, has_room}
-use Rattle.edge_index.specs.Ends.{at_target, is_near, has_near, IsOrderOf}
-use Rattle.edge_index.specs.Refs.{refs_at, refs_of, row_counts, AreRefsOf}
+use Rattle.edge_index.specs.Ends.{Place, at_target, is_near, has_near, IsOrderOf}
+use Rattle.edge_index.specs.Refs.{Count, target_home, count_in, refs_at, refs_of, row_counts, AreRefsOf}
 use Rattle.edge_index.proofs.Keys.{target_is}
 use Rattle.edge_index.proofs.Rises.{count_put, count_take, passes}
 use Rattle.edge_index.proofs.Rows.{Sorted, rows_rise}
-use Rattle.edge_index.proofs.Near.{Place, near_rows, has_end}
+use Rattle.edge_index.proofs.Near.{near_rows, has_end}
 use Rattle.edge_index.proofs.Orders.{near_from_place}
 
 -- a key with room and no row has no link
@@ -26,7 +26,7 @@ free_link key None room free = absurd (cc)
 free_link key (Some None) room free = refl
 free_link key (Some (Some link)) room free = absurd (cc)
 
-pub refs_kept : (counts : ℕ → Bool) (links : List Entry) (refs new : List (ℕ × ℕ)) → ((id : ℕ) → refs_of new id ≡ refs_of refs id) →
+pub refs_kept : (counts : ℕ → Bool) (links : List Entry) (refs new : ℕ → List Count) → ((id : ℕ) → refs_of new id ≡ refs_of refs id) →
     ((id : ℕ) → is_some (refs_at refs id) ≡ true → is_some (refs_at new id) ≡ true) → AreRefsOf counts links refs → AreRefsOf counts links new
 refs_kept counts links refs new same stay are = record {
   exact = λ id. same id ∙ are.exact id;
@@ -34,7 +34,7 @@ refs_kept counts links refs new same stay are = record {
 }
 
 -- room for one key more, whose target has its place
-pub refs_grown : (counts : ℕ → Bool) (links after : List Entry) (refs : List (ℕ × ℕ)) (key : EdgeKey) → rows_of after ≡ rows_of links →
+pub refs_grown : (counts : ℕ → Bool) (links after : List Entry) (refs : ℕ → List Count) (key : EdgeKey) → rows_of after ≡ rows_of links →
     ((q : EdgeKey) → same_key key q ≡ false → has_room after q ≡ true → has_room links q ≡ true) → is_some (refs_at refs key.to) ≡ true →
     AreRefsOf counts links refs → AreRefsOf counts after refs
 refs_grown counts links after refs key rows less there are = record {
@@ -46,7 +46,7 @@ refs_grown counts links after refs key rows less there are = record {
     go q room true is more = subst (λ (k : EdgeKey). is_some (refs_at refs k.to) ≡ true) (same_key_is key q is) there
     go q room false is more = more is
 
-pub refs_put : (counts : ℕ → Bool) (row : EdgeRow) (links after : List Entry) (refs new : List (ℕ × ℕ)) (flag : Bool) → flag ≡ counts row.key.edge →
+pub refs_put : (counts : ℕ → Bool) (row : EdgeRow) (links after : List Entry) (refs new : ℕ → List Count) (flag : Bool) → flag ≡ counts row.key.edge →
     rows_of after ≡ put_edge row (rows_of links) → find (has_key row.key) (rows_of links) ≡ None →
     ((q : EdgeKey) → has_room after q ≡ true → has_room links q ≡ true) →
     ((id : ℕ) → refs_of new id ≡ refs_of refs id + (if flag && nat_eq row.key.to id then 1 else 0)) →
@@ -74,7 +74,7 @@ find_has key (x ∷ xs) row is = go (same_key x.key key) refl (find_has key xs r
     go false same more is = more is
 
 -- the counts without an edge that was counted
-pub exact_taken : (counts : ℕ → Bool) (key : EdgeKey) (links after : List Entry) (refs new : List (ℕ × ℕ)) (flag : Bool) →
+pub exact_taken : (counts : ℕ → Bool) (key : EdgeKey) (links after : List Entry) (refs new : ℕ → List Count) (flag : Bool) →
     flag ≡ row_counts counts (find (has_key key) (rows_of links)) → Sorted links → rows_of after ≡ filter (is_other_edge key) (rows_of links) →
     ((id : ℕ) → refs_of refs id ≡ refs_of new id + (if flag && nat_eq key.to id then 1 else 0)) → AreRefsOf counts links refs →
     (id : ℕ) → refs_of new id ≡ count_by (is_counted counts id) (rows_of after)
@@ -113,15 +113,15 @@ count_under f p (x ∷ xs) under none = go (f x) (p x) refl refl (count_under f 
     go true false fa pb more none = let yes = under x fa in absurd (cc)
     go false false fa pb more none = let zero = more none in grind (arith, common_steps)
 
-pub none_count : {spare : EdgeKey → Bool} (counts : ℕ → Bool) (links : List Entry) (order : List Place) (id : ℕ) → Sorted links → IsOrderOf at_target spare links order → has_near order id ≡ false →
+pub none_count : {spare : EdgeKey → Bool} (counts : ℕ → Bool) (links : List Entry) (order : ℕ → List Place) (id : ℕ) → Sorted links → IsOrderOf at_target spare links order → has_near order id ≡ false →
     count_by (is_counted counts id) (rows_of links) ≡ 0
 none_count counts links order id sorted o none =
     count_under (is_counted counts id) (has_end (λ key. key.to) id) (rows_of links) (λ x yes. (and_parts (counts x.key.edge) (nat_eq x.key.to id) yes).1)
     (sym (near_rows links at_target (λ key. key.to) target_is id order sorted o)
-    ∙ ap (λ (ps : List Place). filter_map (λ (place : Place). row_in links place.1) ps) (any_filter (is_near id) order none))
+    ∙ ap (λ (ps : List Place). filter_map (λ (place : Place). row_in links place.1) ps) (any_filter (is_near id) (order (id % 16)) none))
 
 -- an edge that counts is counted
-pub some_count : (counts : ℕ → Bool) (links : List Entry) (refs : List (ℕ × ℕ)) (key : EdgeKey) (found : Option EdgeRow) → AreRefsOf counts links refs →
+pub some_count : (counts : ℕ → Bool) (links : List Entry) (refs : ℕ → List Count) (key : EdgeKey) (found : Option EdgeRow) → AreRefsOf counts links refs →
     find (has_key key) (rows_of links) ≡ found → row_counts counts found ≡ true → 0 < refs_of refs key.to
 some_count counts links refs key None are found counted = absurd (cc)
 some_count counts links refs key (Some row) are found counted =
@@ -131,7 +131,7 @@ some_count counts links refs key (Some row) are found counted =
     (and_from (counts row.key.edge) (nat_eq row.key.to key.to) counted (eq-eqb row.key.to key.to (ap (λ (k : EdgeKey). k.to) at))))
 
 -- each target of a key with room keeps its place, as long as a key stands there
-pub refs_taken : {spare : EdgeKey → Bool} (counts : ℕ → Bool) (links after : List Entry) (order : List Place) (refs middle new : List (ℕ × ℕ)) →
+pub refs_taken : {spare : EdgeKey → Bool} (counts : ℕ → Bool) (links after : List Entry) (order : ℕ → List Place) (refs middle new : ℕ → List Count) →
     ((q : EdgeKey) → has_room after q ≡ true → has_room links q ≡ true) → IsOrderOf at_target spare after order →
     ((id : ℕ) → refs_of middle id ≡ count_by (is_counted counts id) (rows_of after)) → ((id : ℕ) → is_some (refs_at middle id) ≡ is_some (refs_at refs id)) →
     ((id : ℕ) → refs_of new id ≡ refs_of middle id) → ((id : ℕ) → has_near order id ≡ true → is_some (refs_at new id) ≡ is_some (refs_at middle id)) →
@@ -139,4 +139,13 @@ pub refs_taken : {spare : EdgeKey → Bool} (counts : ℕ → Bool) (links after
 refs_taken counts links after order refs middle new less o exact places same stay are = record {
   exact = λ id. same id ∙ exact id;
   room = λ q room. stay q.to (near_from_place order (at_target q) q (o.whole q room)) ∙ (places q.to ∙ are.room q (less q room));
+}
+
+-- no counts are those of no edges
+pub refs_none : (counts : ℕ → Bool) (links : List Entry) (refs : ℕ → List Count) → links ≡ [] → ((n : ℕ) → refs n ≡ []) → AreRefsOf counts links refs
+refs_none counts links refs no_links none = record {
+  exact = λ id.
+      ap (λ (found : List Count). count_in found id) (none (target_home id))
+      ∙ sym (ap (λ (es : List Entry). count_by (is_counted counts id) (rows_of es)) no_links);
+  room = λ key room. let no : has_room links key ≡ false = ap (λ (es : List Entry). has_room es key) no_links in absurd (cc);
 }

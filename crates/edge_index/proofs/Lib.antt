@@ -1,4 +1,5 @@
 pub mod Keys
+pub mod Sharded
 pub mod Rises
 pub mod Rows
 pub mod ByKey

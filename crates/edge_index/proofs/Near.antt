@@ -1,5 +1,5 @@
 -- The rows that stand at one end, as those of all edges that have it.
-use Rattle.std.proofs.Common.{Less, ◌≡◌, ℕ, Bool, true, false, cond, ◌&&◌, Option, Some, None, List, [], ◌∷◌, refl, sym, ap, subst, ◌∙◌}
+use Rattle.std.proofs.Common.{Less, ◌≡◌, ◌%◌, ℕ, Bool, true, false, cond, ◌&&◌, Option, Some, None, List, [], ◌∷◌, refl, sym, ap, subst, ◌∙◌}
 use Rattle.std.proofs.lemmas.Bool.{and_from, eqb-true}
 use Rattle.std.proofs.lemmas.Map.Keys.{sorted_head, sorted_tail}
 use Rattle.std.specs.Prelude.{find, filter, is_some, nat_eq}
@@ -14,13 +14,10 @@ use Rattle.delf_model.proofs.Graphs.{same_key_is, same_key_refl, same_key_sym}
 use Rattle.edge_index.specs.declared.ends.EndKey.{EndKey}
 use Rattle.edge_index.specs.declared.links.Link.{Link}
 use Rattle.edge_index.specs.Links.{Entry, rows_of, row_found, link_at, row_in}
-use Rattle.edge_index.specs.Ends.{end_cmp, is_near, place_of, rows_near, stands_at, IsOrderOf}
+use Rattle.edge_index.specs.Ends.{Place, end_cmp, is_near, place_in, rows_in, rows_near, stands_at, IsOrderOf}
 use Rattle.edge_index.proofs.Keys.{IsEnd}
 use Rattle.edge_index.proofs.Rises.{cond_yes, cond_no, rows_one, rises_filter}
 use Rattle.edge_index.proofs.Rows.{Sorted, find_row, rows_rise}
-
-abbrev pub Place : Type 0
-Place = EndKey × EdgeKey
 
 -- a row in the table has the key that it is looked up by
 row_has : (key : EdgeKey) (link : Option (Option Link)) (row : EdgeRow) → row_found key link ≡ Some row → row.key ≡ key
@@ -72,7 +69,7 @@ no_place false found = refl
 
 -- what is found among the rows at an end: the row of a key that stands there
 find_near : (links : List Entry) (end : EdgeKey → EndKey) (near : EdgeKey → ℕ) → IsEnd end near → (id : ℕ) (order : List Place) → AllByRecursion (stands_at end) order →
-    (key : EdgeKey) → find (has_key key) (rows_near links order id) ≡ cond (nat_eq (near key) id && is_some (place_of order (end key))) (row_in links key) None
+    (key : EdgeKey) → find (has_key key) (rows_in links order id) ≡ cond (nat_eq (near key) id && is_some (place_in order (end key))) (row_in links key) None
 find_near links end near is id [] places key = no_place (nat_eq (near key) id) (row_in links key)
 find_near links end near is id (p ∷ ps) places key =
     go (same_key key p.1) (is_eq (end_cmp (end key) p.0)) refl
@@ -81,11 +78,11 @@ find_near links end near is id (p ∷ ps) places key =
     (find_near links end near is id ps places.1 key)
   where
     go : (same hit : Bool) → same_key key p.1 ≡ same → hit ≡ same_key key p.1 → is_near id p ≡ nat_eq (near p.1) id →
-        find (has_key key) (rows_near links ps id) ≡ cond (nat_eq (near key) id && is_some (place_of ps (end key))) (row_in links key) None →
-        find (has_key key) (rows_near links (p ∷ ps) id) ≡ cond (nat_eq (near key) id && is_some (cond hit (Some p.1) (place_of ps (end key)))) (row_in links key) None
+        find (has_key key) (rows_in links ps id) ≡ cond (nat_eq (near key) id && is_some (place_in ps (end key))) (row_in links key) None →
+        find (has_key key) (rows_in links (p ∷ ps) id) ≡ cond (nat_eq (near key) id && is_some (cond hit (Some p.1) (place_in ps (end key)))) (row_in links key) None
     go true true one at far more =
         let key_is : p.1 ≡ key = sym (same_key_is key p.1 one) in
-        near_here links key p (filter (is_near id) ps) (is_near id p) (nat_eq (near key) id) (is_some (place_of ps (end key))) key_is
+        near_here links key p (filter (is_near id) ps) (is_near id p) (nat_eq (near key) id) (is_some (place_in ps (end key))) key_is
         (far ∙ ap (λ (k : EdgeKey). nat_eq (near k) id) key_is) more
     go false false one at far more = near_there links key p (filter (is_near id) ps) (is_near id p) (same_key_sym p.1 key ∙ one) ∙ more
     go true false one at far more = absurd (cc)
@@ -103,7 +100,7 @@ after_place links low key rows (Some row) at before above rest =
 
 near_after : (links : List Entry) (end : EdgeKey → EndKey) (near : EdgeKey → ℕ) → IsEnd end near → (id : ℕ) (low : EdgeKey) → near low ≡ id → (order : List Place) →
     AllByRecursion (stands_at end) order → AllByRecursion (λ place. end_cmp (end low) place ≡ Less) (keys_of order) → IsStrictlySortedBy end_cmp (keys_of order) →
-    keys_rise_after low (rows_near links order id) ≡ true
+    keys_rise_after low (rows_in links order id) ≡ true
 near_after links end near is id low at [] places below sorted = refl
 near_after links end near is id low at (p ∷ ps) places below sorted =
     go (is_near id p) refl
@@ -112,14 +109,14 @@ near_after links end near is id low at (p ∷ ps) places below sorted =
     (subst (λ (q : EndKey). AllByRecursion (λ place. end_cmp q place ≡ Less) (keys_of ps)) places.0 (sorted_head end_cmp p.0 (keys_of ps) sorted))
     (sorted_tail end_cmp p.0 (keys_of ps) sorted))
   where
-    go : (close : Bool) → is_near id p ≡ close → keys_rise_after low (rows_near links ps id) ≡ true →
-        (near p.1 ≡ id → keys_rise_after p.1 (rows_near links ps id) ≡ true) →
+    go : (close : Bool) → is_near id p ≡ close → keys_rise_after low (rows_in links ps id) ≡ true →
+        (near p.1 ≡ id → keys_rise_after p.1 (rows_in links ps id) ≡ true) →
         keys_rise_after low (filter_map (row_at_place links) (cond close (p ∷ filter (is_near id) ps) (filter (is_near id) ps))) ≡ true
     go false far rest above = rest
     go true far rest above =
         let mine : near p.1 ≡ id = sym (is.near_is p.1) ∙ (ap (λ (q : EndKey). q.near) (sym places.0) ∙ eqb-true p.0.near id far) in
         let less : end_cmp (end low) (end p.1) ≡ Less = subst (λ (q : EndKey). end_cmp (end low) q ≡ Less) places.0 below.0 in
-        after_place links low p.1 (rows_near links ps id) (row_in links p.1) (λ row. row_has p.1 (link_at links p.1) row)
+        after_place links low p.1 (rows_in links ps id) (row_in links p.1) (λ row. row_has p.1 (link_at links p.1) row)
         (is.less low p.1 less (at ∙ sym mine)) (above mine) rest
 
 rise_place : (key : EdgeKey) (rows : List EdgeRow) → (found : Option EdgeRow) → ((row : EdgeRow) → found ≡ Some row → row.key ≡ key) →
@@ -128,7 +125,7 @@ rise_place key rows None at above rest = rest
 rise_place key rows (Some row) at above rest = subst (λ (k : EdgeKey). keys_rise_after k rows ≡ true) (sym (at row refl)) above
 
 near_rises : (links : List Entry) (end : EdgeKey → EndKey) (near : EdgeKey → ℕ) → IsEnd end near → (id : ℕ) (order : List Place) →
-    AllByRecursion (stands_at end) order → IsStrictlySortedBy end_cmp (keys_of order) → edges_rise (rows_near links order id) ≡ true
+    AllByRecursion (stands_at end) order → IsStrictlySortedBy end_cmp (keys_of order) → edges_rise (rows_in links order id) ≡ true
 near_rises links end near is id [] places sorted = refl
 near_rises links end near is id (p ∷ ps) places sorted =
     go (is_near id p) refl (near_rises links end near is id ps places.1 (sorted_tail end_cmp p.0 (keys_of ps) sorted))
@@ -136,13 +133,13 @@ near_rises links end near is id (p ∷ ps) places sorted =
     (subst (λ (q : EndKey). AllByRecursion (λ place. end_cmp q place ≡ Less) (keys_of ps)) places.0 (sorted_head end_cmp p.0 (keys_of ps) sorted))
     (sorted_tail end_cmp p.0 (keys_of ps) sorted))
   where
-    go : (close : Bool) → is_near id p ≡ close → edges_rise (rows_near links ps id) ≡ true →
-        (near p.1 ≡ id → keys_rise_after p.1 (rows_near links ps id) ≡ true) →
+    go : (close : Bool) → is_near id p ≡ close → edges_rise (rows_in links ps id) ≡ true →
+        (near p.1 ≡ id → keys_rise_after p.1 (rows_in links ps id) ≡ true) →
         edges_rise (filter_map (row_at_place links) (cond close (p ∷ filter (is_near id) ps) (filter (is_near id) ps))) ≡ true
     go false far rest above = rest
     go true far rest above =
         let mine : near p.1 ≡ id = sym (is.near_is p.1) ∙ (ap (λ (q : EndKey). q.near) (sym places.0) ∙ eqb-true p.0.near id far) in
-        rise_place p.1 (rows_near links ps id) (row_in links p.1) (λ row. row_has p.1 (link_at links p.1) row) (above mine) rest
+        rise_place p.1 (rows_in links ps id) (row_in links p.1) (λ row. row_has p.1 (link_at links p.1) row) (above mine) rest
 
 -- the edges that have an end, among all
 
@@ -167,10 +164,10 @@ find_having near id key (x ∷ xs) = go (nat_eq (near x.key) id) (same_key x.key
         more ∙ (cond_no (nat_eq (near key) id) (find (has_key key) xs) None mine ∙ sym (cond_no (nat_eq (near key) id) (Some x) None mine))
     go false false far one more = more
 
-both_ways : (mine there : Bool) (found : Option EdgeRow) → (is_some found ≡ true → there ≡ true) → cond (mine && there) found None ≡ cond mine found None
+both_ways : (mine there : Bool) (found : Option EdgeRow) → (mine ≡ true → is_some found ≡ true → there ≡ true) → cond (mine && there) found None ≡ cond mine found None
 both_ways true true found whole = refl
 both_ways true false None whole = refl
-both_ways true false (Some row) whole = absurd (cc (whole refl))
+both_ways true false (Some row) whole = absurd (cc (whole refl refl))
 both_ways false there found whole = refl
 
 room_of_row : (key : EdgeKey) (link : Option (Option Link)) → is_some (row_found key link) ≡ true → is_some link ≡ true
@@ -178,11 +175,16 @@ room_of_row key None some = absurd (cc)
 room_of_row key (Some link) some = refl
 
 -- the rows at an end are those of all edges that have it
-pub near_rows : {spare : EdgeKey → Bool} (links : List Entry) (end : EdgeKey → EndKey) (near : EdgeKey → ℕ) → IsEnd end near → (id : ℕ) (order : List Place) →
+pub near_rows : {spare : EdgeKey → Bool} (links : List Entry) (end : EdgeKey → EndKey) (near : EdgeKey → ℕ) → IsEnd end near → (id : ℕ) (order : ℕ → List Place) →
     Sorted links → IsOrderOf end spare links order → rows_near links order id ≡ filter (has_end near id) (rows_of links)
 near_rows links end near is id order sorted o =
-    rows_one (rows_near links order id) (filter (has_end near id) (rows_of links)) (near_rises links end near is id order o.places o.rise)
+    rows_one (rows_near links order id) (filter (has_end near id) (rows_of links)) (near_rises links end near is id (order (id % 16)) (o.places (id % 16)) (o.rise (id % 16)))
     (rises_filter (has_end near id) (rows_of links) (rows_rise links sorted))
-    (λ key. find_near links end near is id order o.places key
-    ∙ (both_ways (nat_eq (near key) id) (is_some (place_of order (end key))) (row_in links key) (λ some. ap is_some (o.whole key (room_of_row key (link_at links key) some)))
+    (λ key. find_near links end near is id (order (id % 16)) (o.places (id % 16)) key
+    ∙ (both_ways (nat_eq (near key) id) (is_some (place_in (order (id % 16)) (end key))) (row_in links key) (λ mine some. there key mine some)
     ∙ sym (find_having near id key (rows_of links) ∙ ap (λ (found : Option EdgeRow). cond (nat_eq (near key) id) found None) (find_row links key sorted))))
+  where
+    there : (key : EdgeKey) → nat_eq (near key) id ≡ true → is_some (row_in links key) ≡ true → is_some (place_in (order (id % 16)) (end key)) ≡ true
+    there key mine some =
+        ap (λ (n : ℕ). is_some (place_in (order (n % 16)) (end key))) (sym (is.near_is key ∙ eqb-true (near key) id mine))
+        ∙ ap is_some (o.whole key (room_of_row key (link_at links key) some))

@@ -1,11 +1,12 @@
 -- An order by one end, as a key comes or goes.
-use Rattle.std.proofs.Common.{Less, Equal, Greater, ◌≡◌, ℕ, Bool, true, false, cond, ◌||◌, Option, Some, None, List, [], ◌∷◌, refl, sym, ap, subst, ◌∙◌}
+use Rattle.std.proofs.Common.{Less, Equal, Greater, ◌≡◌, ◌<◌, ℕ, length, get_or, Bool, true, false, cond, ◌||◌, Option, Some, None, List, [], ◌∷◌, refl, sym, ap, subst, ◌∙◌}
 use Rattle.std.proofs.lemmas.Bool.{eq-eqb}
 use Rattle.std.specs.Prelude.{is_some}
 use Rattle.std.specs.List.{AllByRecursion}
 use Rattle.std.specs.List.Sorted.{IsStrictlySortedBy}
 use Rattle.std.specs.Map.{keys_of, remove_entry}
-use Rattle.std.specs.BTreeMap.{is_at, insert_entry}
+use Rattle.std.specs.BTreeMap.{BTreeMap, is_at, insert_entry}
+use Rattle.std.proofs.Math.ListN.{set}
 use Rattle.std.specs.declared.cmp.Ordering.{Ordering}
 use Rattle.std.specs.Ordering.{is_eq, match_ordering}
 use Rattle.delf_model.specs.declared.rows.EdgeKey.{EdgeKey}
@@ -15,9 +16,9 @@ use Rattle.edge_index.specs.declared.ends.EndKey.{EndKey}
 use Rattle.edge_index.specs.declared.links.Link.{Link}
 use Rattle.edge_index.specs.Keys.{edge_cmp}
 use Rattle.edge_index.specs.Links.{Entry, link_at, has_room}
-use Rattle.edge_index.specs.Ends.{end_cmp, place_of, stands_at, is_near, has_near, no_key, TellsApart, IsOrderOf}
-use Rattle.edge_index.proofs.Keys.{IsEnd, one_place, edge_equal}
-use Rattle.edge_index.proofs.Near.{Place}
+use Rattle.edge_index.specs.Ends.{Place, end_cmp, place_home, places_of, places_at, place_in, place_of, stands_at, is_near, any_near, has_near, no_key, Placed, Rises, StandAt, TellsApart, IsOrderOf}
+use Rattle.edge_index.proofs.Keys.{IsEnd, one_place, place_self, edge_equal}
+use Rattle.edge_index.proofs.Sharded.{shard_get, each_set, found_set}
 
 all_inserted : (end : EdgeKey → EndKey) (place : EndKey) (key : EdgeKey) → place ≡ end key → (order : List Place) → AllByRecursion (stands_at end) order →
     AllByRecursion (stands_at end) (insert_entry end_cmp order place key)
@@ -38,9 +39,36 @@ all_removed end test (p ∷ ps) all = go (test p.0) (all_removed end test ps all
     go true more = all.1
     go false more = (all.0, more)
 
--- what an order has after one place is written or taken out
-abbrev pub Placed : List Place → List Place → EndKey → Option EdgeKey → Type 0
-Placed old new place found = (q : EndKey) → place_of new q ≡ cond (is_eq (end_cmp place q)) found (place_of old q)
+-- one shard of an order, as a place of it is written or taken out
+
+homes : (p q : EndKey) → is_eq (end_cmp p q) ≡ true → place_home p ≡ place_home q
+homes p q same = ap place_home (one_place p q same)
+
+pub shard_placed : (order : List (BTreeMap EndKey EdgeKey)) (k : ℕ) (old new : BTreeMap EndKey EdgeKey) (place : EndKey) (found : Option EdgeKey) → k ≡ place_home place → k < length order →
+    old ≡ get_or order k old → ((q : EndKey) → place_in new.entries q ≡ cond (is_eq (end_cmp place q)) found (place_in old.entries q)) →
+    Placed (places_at order) (places_at (set order k new)) place found
+shard_placed order k old new place found at below is placed =
+    found_set places_of (λ p q. is_eq (end_cmp p q)) place_home homes order k old new place found at below is placed
+
+pub shard_rises : (order : List (BTreeMap EndKey EdgeKey)) (k : ℕ) (new : BTreeMap EndKey EdgeKey) → k < length order → IsStrictlySortedBy end_cmp (keys_of new.entries) →
+    Rises (places_at order) → Rises (places_at (set order k new))
+shard_rises order k new below rise rises = each_set places_of (λ (ps : List Place). IsStrictlySortedBy end_cmp (keys_of ps)) order k new below rise rises
+
+pub shard_inserted : (end : EdgeKey → EndKey) (order : List (BTreeMap EndKey EdgeKey)) (k : ℕ) (old new : BTreeMap EndKey EdgeKey) (place : EndKey) (key : EdgeKey) → place ≡ end key →
+    k < length order → old ≡ get_or order k old → new.entries ≡ insert_entry end_cmp old.entries place key → StandAt end (places_at order) → StandAt end (places_at (set order k new))
+shard_inserted end order k old new place key at below is made stand =
+    each_set places_of (λ (ps : List Place). AllByRecursion (stands_at end) ps) order k new below
+    (subst (λ (ps : List Place). AllByRecursion (stands_at end) ps) (sym made)
+    (all_inserted end place key at old.entries (subst (λ (ps : List Place). AllByRecursion (stands_at end) ps) (shard_get places_of order k old below is) (stand k))))
+    stand
+
+pub shard_removed : (end : EdgeKey → EndKey) (order : List (BTreeMap EndKey EdgeKey)) (k : ℕ) (old new : BTreeMap EndKey EdgeKey) (place : EndKey) →
+    k < length order → old ≡ get_or order k old → new.entries ≡ remove_entry (is_at (end_cmp place)) old.entries → StandAt end (places_at order) → StandAt end (places_at (set order k new))
+shard_removed end order k old new place below is made stand =
+    each_set places_of (λ (ps : List Place). AllByRecursion (stands_at end) ps) order k new below
+    (subst (λ (ps : List Place). AllByRecursion (stands_at end) ps) (sym made)
+    (all_removed end (is_at (end_cmp place)) old.entries (subst (λ (ps : List Place). AllByRecursion (stands_at end) ps) (shard_get places_of order k old below is) (stand k))))
+    stand
 
 or_left : (a b : Bool) → a ≡ true → (a || b) ≡ true
 or_left true b is = refl
@@ -50,12 +78,15 @@ or_right : (a b : Bool) → b ≡ true → (a || b) ≡ true
 or_right true b is = refl
 or_right false b is = is
 
-pub order_inserted : (end : EdgeKey → EndKey) (spare : EdgeKey → Bool) (links : List Entry) (old new : List Place) (place : EndKey) (key : EdgeKey) → TellsApart end → end key ≡ place →
-    spare key ≡ true → new ≡ insert_entry end_cmp old place key → IsStrictlySortedBy end_cmp (keys_of new) → Placed old new place (Some key) →
+pub placed_there : (old new : ℕ → List Place) (place : EndKey) (key : EdgeKey) → Placed old new place (Some key) → place_of new place ≡ Some key
+placed_there old new place key placed = placed place ∙ ap (λ (b : Bool). cond b (Some key) (place_of old place)) (place_self place)
+
+pub order_inserted : (end : EdgeKey → EndKey) (spare : EdgeKey → Bool) (links : List Entry) (old new : ℕ → List Place) (place : EndKey) (key : EdgeKey) → TellsApart end → end key ≡ place →
+    spare key ≡ true → (Rises old → Rises new) → (StandAt end old → StandAt end new) → Placed old new place (Some key) →
     IsOrderOf end spare links old → IsOrderOf end spare links new
-order_inserted end spare links old new place key apart at may made rise placed o = record {
-  rise = rise;
-  places = subst (λ (order : List Place). AllByRecursion (stands_at end) order) (sym made) (all_inserted end place key (sym at) old o.places);
+order_inserted end spare links old new place key apart at may rise stand placed o = record {
+  rise = rise o.rise;
+  places = stand o.places;
   whole = λ other room. placed (end other) ∙ go other (o.whole other room) (is_eq (end_cmp place (end other))) refl;
   only = λ q k there. from q k (is_eq (end_cmp place q)) (sym (placed q) ∙ there);
 }
@@ -69,7 +100,7 @@ order_inserted end spare links old new place key apart at may made rise placed o
     from q k false there = o.only q k there
 
 -- any order may have a key to spare
-pub order_wider : (end : EdgeKey → EndKey) (spare : EdgeKey → Bool) (links : List Entry) (order : List Place) → IsOrderOf end no_key links order → IsOrderOf end spare links order
+pub order_wider : (end : EdgeKey → EndKey) (spare : EdgeKey → Bool) (links : List Entry) (order : ℕ → List Place) → IsOrderOf end no_key links order → IsOrderOf end spare links order
 order_wider end spare links order o = record {
   rise = o.rise;
   places = o.places;
@@ -82,7 +113,7 @@ order_wider end spare links order o = record {
     none false is = is
 
 -- the same order, where a table of links has room for the same keys
-pub order_kept : (end : EdgeKey → EndKey) (before after : List Entry) (order : List Place) → ((key : EdgeKey) → has_room after key ≡ true → has_room before key ≡ true) →
+pub order_kept : (end : EdgeKey → EndKey) (before after : List Entry) (order : ℕ → List Place) → ((key : EdgeKey) → has_room after key ≡ true → has_room before key ≡ true) →
     ((key : EdgeKey) → has_room before key ≡ true → has_room after key ≡ true) → IsOrderOf end no_key before order → IsOrderOf end no_key after order
 order_kept end before after order less more o = record {
   rise = o.rise;
@@ -126,7 +157,7 @@ no_link links key none = go (link_at links key) none
     go (Some link) none = absurd (cc)
 
 -- an order that has a new key already serves the table with it
-pub order_grown : (end : EdgeKey → EndKey) (old new : List Entry) (order : List Place) (key : EdgeKey) (link : Option Link) → Linked old new key (Some link) →
+pub order_grown : (end : EdgeKey → EndKey) (old new : List Entry) (order : ℕ → List Place) (key : EdgeKey) (link : Option Link) → Linked old new key (Some link) →
     place_of order (end key) ≡ Some key → IsOrderOf end (same_key key) old order → IsOrderOf end no_key new order
 order_grown end old new order key link linked there o = record {
   rise = o.rise;
@@ -169,23 +200,23 @@ free_apart links key free q room = (go (same_key key q) refl, room)
     go false is = refl
 
 -- a key stands at its place alone
-stands_there : (end : EdgeKey → EndKey) (order : List Place) → AllByRecursion (stands_at end) order → (q : EndKey) (key : EdgeKey) → place_of order q ≡ Some key → q ≡ end key
+stands_there : (end : EdgeKey → EndKey) (order : List Place) → AllByRecursion (stands_at end) order → (q : EndKey) (key : EdgeKey) → place_in order q ≡ Some key → q ≡ end key
 stands_there end [] places q key there = absurd (cc)
 stands_there end (p ∷ ps) places q key there = go (is_eq (end_cmp q p.0)) refl (stands_there end ps places.1 q key) there
   where
-    go : (b : Bool) → is_eq (end_cmp q p.0) ≡ b → (place_of ps q ≡ Some key → q ≡ end key) → cond b (Some p.1) (place_of ps q) ≡ Some key → q ≡ end key
+    go : (b : Bool) → is_eq (end_cmp q p.0) ≡ b → (place_in ps q ≡ Some key → q ≡ end key) → cond b (Some p.1) (place_in ps q) ≡ Some key → q ≡ end key
     go true is more there = let same : p.1 ≡ key = cc in one_place q p.0 is ∙ (places.0 ∙ ap end same)
     go false is more there = more there
 
 -- a key taken out of its order, which no longer has room
-pub order_taken : (end : EdgeKey → EndKey) (near : EdgeKey → ℕ) → IsEnd end near → (old new : List Entry) (order after : List Place) (key : EdgeKey) (place : EndKey) → place ≡ end key →
+pub order_taken : (end : EdgeKey → EndKey) (near : EdgeKey → ℕ) → IsEnd end near → (old new : List Entry) (order after : ℕ → List Place) (key : EdgeKey) (place : EndKey) → place ≡ end key →
     ((q : EdgeKey) → has_room new q ≡ true → (same_key key q ≡ false) × (has_room old q ≡ true)) →
     ((q : EdgeKey) → same_key key q ≡ false → has_room old q ≡ true → has_room new q ≡ true) →
-    after ≡ remove_entry (is_at (end_cmp place)) order → IsStrictlySortedBy end_cmp (keys_of after) → Placed order after place None →
+    (Rises order → Rises after) → (StandAt end order → StandAt end after) → Placed order after place None →
     IsOrderOf end (same_key key) old order → IsOrderOf end no_key new after
-order_taken end near is old new order after key place at gone left made rise placed o = record {
-  rise = rise;
-  places = subst (λ (ps : List Place). AllByRecursion (stands_at end) ps) (sym made) (all_removed end (is_at (end_cmp place)) order o.places);
+order_taken end near is old new order after key place at gone left rise stand placed o = record {
+  rise = rise o.rise;
+  places = stand o.places;
   whole = λ q room. let parts = gone q room in
       placed (end q) ∙ (ap (λ (b : Bool). cond b None (place_of order (end q))) (ap (λ (p : EndKey). is_eq (end_cmp p (end q))) at ∙ (is.one key q ∙ parts.0)) ∙ o.whole q parts.1);
   only = λ q k there. or_left (has_room new k) false (from q k (is_eq (end_cmp place q)) refl (sym (placed q) ∙ there));
@@ -206,16 +237,29 @@ order_taken end near is old new order after key place at gone left made rise pla
     from : (q : EndKey) (k : EdgeKey) (b : Bool) → is_eq (end_cmp place q) ≡ b → cond b None (place_of order q) ≡ Some k → has_room new k ≡ true
     from q k true hit there = absurd (cc)
     from q k false hit there =
-        was k (has_room old k) (same_key key k) refl refl (apart q k hit (stands_there end order o.places q k there) (same_key key k) refl) (o.only q k there)
+        was k (has_room old k) (same_key key k) refl refl (apart q k hit (stands_there end (order (place_home q)) (o.places (place_home q)) q k there) (same_key key k) refl) (o.only q k there)
 
 -- a key that has its place stands at that end
-pub near_from_place : (order : List Place) (place : EndKey) (key : EdgeKey) → place_of order place ≡ Some key → has_near order place.near ≡ true
-near_from_place [] place key there = absurd (cc)
-near_from_place (p ∷ ps) place key there = go (is_eq (end_cmp place p.0)) refl (near_from_place ps place key) there
+any_from_place : (order : List Place) (place : EndKey) (key : EdgeKey) → place_in order place ≡ Some key → any_near order place.near ≡ true
+any_from_place [] place key there = absurd (cc)
+any_from_place (p ∷ ps) place key there = go (is_eq (end_cmp place p.0)) refl (any_from_place ps place key) there
   where
-    go : (b : Bool) → is_eq (end_cmp place p.0) ≡ b → (place_of ps place ≡ Some key → has_near ps place.near ≡ true) → cond b (Some p.1) (place_of ps place) ≡ Some key →
-        (is_near place.near p || has_near ps place.near) ≡ true
+    go : (b : Bool) → is_eq (end_cmp place p.0) ≡ b → (place_in ps place ≡ Some key → any_near ps place.near ≡ true) → cond b (Some p.1) (place_in ps place) ≡ Some key →
+        (is_near place.near p || any_near ps place.near) ≡ true
     go true is more there =
         let at : place ≡ p.0 = one_place place p.0 is in
-        ap (λ (b : Bool). b || has_near ps place.near) (eq-eqb p.0.near place.near (ap (λ (q : EndKey). q.near) (sym at)))
-    go false is more there = or_right (is_near place.near p) (has_near ps place.near) (more there)
+        ap (λ (b : Bool). b || any_near ps place.near) (eq-eqb p.0.near place.near (ap (λ (q : EndKey). q.near) (sym at)))
+    go false is more there = or_right (is_near place.near p) (any_near ps place.near) (more there)
+
+pub near_from_place : (order : ℕ → List Place) (place : EndKey) (key : EdgeKey) → place_of order place ≡ Some key → has_near order place.near ≡ true
+near_from_place order place key there = any_from_place (order (place_home place)) place key there
+
+-- an order without keys is that of a table without keys
+pub order_none : (end : EdgeKey → EndKey) (links : List Entry) (order : ℕ → List Place) → links ≡ [] → ((n : ℕ) → order n ≡ []) → IsOrderOf end no_key links order
+unfolding IsStrictlySortedBy
+order_none end links order no_links none = record {
+  rise = λ n. subst (λ (ps : List Place). IsStrictlySortedBy end_cmp (keys_of ps)) (sym (none n)) tt;
+  places = λ n. subst (λ (ps : List Place). AllByRecursion (stands_at end) ps) (sym (none n)) tt;
+  whole = λ key room. let no : has_room links key ≡ false = ap (λ (es : List Entry). has_room es key) no_links in absurd (cc);
+  only = λ q k there. let no : place_of order q ≡ None = ap (λ (ps : List Place). place_in ps q) (none (place_home q)) in absurd (cc);
+}

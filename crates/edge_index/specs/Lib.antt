@@ -1,4 +1,5 @@
 pub mod Keys
+pub mod Shards
 pub mod Links
 pub mod InsideLinks
 pub mod Ends

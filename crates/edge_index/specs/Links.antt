@@ -1,12 +1,14 @@
 -- The edge rows that a table of links makes.
-use Rattle.std.specs.Prelude.{Bool, List, [], ◌∷◌, Option, Some, None, is_some}
+use Rattle.std.specs.Prelude.{◌%◌, ℕ, Bool, List, [], ◌∷◌, Option, Some, None, is_some}
 use Rattle.std.specs.List.{filter_map}
 use Rattle.std.specs.Map.{lookup}
 use Rattle.std.specs.BTreeMap.{is_at, insert_entry}
+use Rattle.indexmap.specs.IndexMap.{IndexMap}
 use Rattle.delf_model.specs.declared.rows.EdgeKey.{EdgeKey}
 use Rattle.delf_model.specs.declared.rows.EdgeRow.{EdgeRow}
 use Rattle.edge_index.specs.declared.links.Link.{Link}
 use Rattle.edge_index.specs.Keys.{edge_cmp, edge_eq}
+use Rattle.edge_index.specs.Shards.{shard, all_in}
 
 -- a key with what stands there
 abbrev pub Entry : Type 0
@@ -19,6 +21,20 @@ pub record LinkTable : Type 0 where
 -- what stands at a key among entries in no order
 abbrev pub found : List Entry → EdgeKey → Option (Option Link)
 found entries key = lookup (edge_eq key) entries
+
+-- the shard of a link: that of its source
+abbrev pub link_home : EdgeKey → ℕ
+link_home key = key.from % 16
+
+abbrev pub entries_of : {S : Type 0} → IndexMap EdgeKey (Option Link) S → List Entry
+entries_of table = table.entries
+
+-- what a table has by its number, and what all have
+abbrev pub entries_at : {S : Type 0} → List (IndexMap EdgeKey (Option Link) S) → ℕ → List Entry
+entries_at tables n = shard entries_of tables n
+
+abbrev pub all_entries : {S : Type 0} → List (IndexMap EdgeKey (Option Link) S) → List Entry
+all_entries tables = all_in entries_of tables
 
 -- entries by rising key, and of two at one key the first
 abbrev pub by_key : List Entry → List Entry

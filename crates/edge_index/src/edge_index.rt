@@ -13,9 +13,10 @@ use delf_model::{EdgeKey, EdgeRow, ObjectId, Rules};
 use std::alloc::{AllocError, Global};
 use std::marker::Model;
 
-/// The edges of a graph, at most 4,294,967,295, by rising key. A look-up by key and a count take a few steps, however many
-/// there are; what asks an order of an end takes a number that grows with their logarithm, and the row at a place also with
-/// the place. `ready_edge` goes over all keys where its table has to grow, and `edges` sorts them.
+/// The edges of a graph, at most 4,294,967,295, by rising key. They stand in sixteen shards by id modulo 16: what is asked of a
+/// key or a source in the source's, what is asked of a target in the target's. A look-up by key and a count take a few steps,
+/// however many there are; what asks an order of an end takes a number that grows with their logarithm, and the row at a place
+/// also with the place. `ready_edge` goes over the keys of a shard where its table has to grow, and `edges` sorts all.
 #[derive(Drop)]
 pub struct EdgeIndex {
     tables: Tables,

@@ -6,6 +6,7 @@ mod ends;
 mod links;
 mod refs;
 mod shapes;
+mod shards;
 mod tables;
 #[cfg(test)]
 mod tests;

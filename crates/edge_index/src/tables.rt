@@ -4,15 +4,12 @@ ghost use Rattle.delf_model.specs.declared.rows.EdgeKey.{EdgeKey};
 ghost use Rattle.delf_model.specs.Graph.{same_key, has_key, put_edge, is_other_edge};
 ghost use Rattle.edge_index.specs.Links.{has_room};
 
-use crate::ends::{EndOrder, add_place, source_end, target_end};
+use crate::ends::{EndOrder, add_place, drop_place, empty_order, source_end, target_end};
 use crate::links::Links;
-use crate::refs::{Refs, count_down, count_up, forget, ready_ref};
+use crate::refs::{Refs, count_down, count_up, empty_refs, forget, ready_ref};
 use crate::shapes::{is_counting, is_row_counting, shapes_of};
 use delf_model::{EdgeKey, EdgeRow, EdgeShape, Rules};
-use id_hash::IdHash;
-use indexmap::IndexMap;
 use std::alloc::{AllocError, Global};
-use std::collections::BTreeMap;
 
 /// The tables of an index of edges.
 #[derive(Drop)]
@@ -40,10 +37,10 @@ impl Tables {
     {
         Ok(Tables {
             shapes: shapes_of(alloc, rules)?,
-            links: Links::empty(alloc),
-            outward: BTreeMap::new(alloc),
-            inward: BTreeMap::new(alloc),
-            refs: IndexMap::with_hasher(alloc, IdHash::new()),
+            links: Links::empty(alloc)?,
+            outward: empty_order(alloc)?,
+            inward: empty_order(alloc)?,
+            refs: empty_refs(alloc)?,
         })
     }
 
@@ -60,8 +57,8 @@ impl Tables {
             return Ok(());
         }
         if let Err(error) = self.add_places(key) {
-            self.outward.remove(&source_end(&key));
-            self.inward.remove(&target_end(&key));
+            drop_place(&mut self.outward, &source_end(&key));
+            drop_place(&mut self.inward, &target_end(&key));
             return Err(error);
         }
         Ok(())
@@ -111,8 +108,8 @@ impl Tables {
     {
         let row = self.links.take(key);
         let counts = is_row_counting(&self.shapes, &row);
-        self.outward.remove(&source_end(key));
-        self.inward.remove(&target_end(key));
+        drop_place(&mut self.outward, &source_end(key));
+        drop_place(&mut self.inward, &target_end(key));
         count_down(&mut self.refs, key.to, counts);
         forget(&mut self.refs, &self.inward, key.to);
         row

@@ -1,6 +1,7 @@
 use Rattle.std.proofs.Common.{◌∙◌, ap, List}
 use Rattle.std.specs.Prelude.{slice_get}
 use Rattle.delf_model.specs.declared.rows.EdgeRow.{EdgeRow}
+use Rattle.edge_index.specs.Ends.{places_at}
 use Rattle.edge_index.proofs.Keys.{source_is}
 use Rattle.edge_index.proofs.Near.{near_rows}
 use Rattle.edge_index.proofs.edge_index.EdgeIndex.out_at.Goals as goal
@@ -8,4 +9,4 @@ use Rattle.edge_index.proofs.edge_index.EdgeIndex.out_at.Goals as goal
 pub returns : goal.returns
 returns c =
     rw (← c.self.view_is) (c.row_near.ensures ∙ ap (λ (rows : List EdgeRow). slice_get rows c.args.i)
-    (near_rows c.self.inside.tables.links.entries _ _ source_is c.args.id c.self.inside.tables.outward.entries c.self.invariant.rise c.self.invariant.out))
+    (near_rows c.self.inside.tables.links.entries _ _ source_is c.args.id (places_at c.self.inside.tables.outward.items) c.self.invariant.rise c.self.invariant.out))

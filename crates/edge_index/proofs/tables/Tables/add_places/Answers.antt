@@ -3,8 +3,8 @@ use Rattle.delf_model.specs.declared.rows.EdgeRow.{EdgeRow}
 use Rattle.delf_model.specs.Graph.{same_key}
 use Rattle.delf_model.proofs.Graphs.{same_key_refl}
 use Rattle.edge_index.specs.Links.{Entry, rows_of}
-use Rattle.edge_index.specs.Ends.{at_source, at_target, place_of, IsOrderOf}
-use Rattle.edge_index.specs.Refs.{AreRefsOf}
+use Rattle.edge_index.specs.Ends.{places_at, at_source, at_target, place_of, IsOrderOf}
+use Rattle.edge_index.specs.Refs.{AreRefsOf, counts_at}
 use Rattle.edge_index.specs.Tables.{counts, AgreeBut}
 use Rattle.edge_index.proofs.Keys.{source_apart, target_apart}
 use Rattle.edge_index.proofs.Rows.{Sorted, rows_ready}
@@ -23,9 +23,12 @@ returns-in_err-add_place-clause-part c =
     record {
       rise = c.requires.agree.rise;
       few = c.requires.agree.few;
+      outs = c.in_err-add_place.ensures.count;
       out = c.in_err-add_place.ensures.keeps at_source (same_key c.args.key) c.args.self.now.links.entries source_apart (sym c.source_end.ensures) (same_key_refl c.args.key)
-          (order_wider at_source (same_key c.args.key) c.args.self.now.links.entries c.args.self.now.outward.entries c.requires.agree.out);
-      into = order_wider at_target (same_key c.args.key) c.args.self.now.links.entries c.args.self.now.inward.entries c.requires.agree.into;
+          (order_wider at_source (same_key c.args.key) c.args.self.now.links.entries (places_at c.args.self.now.outward.items) c.requires.agree.out);
+      ins = c.requires.agree.ins;
+      into = order_wider at_target (same_key c.args.key) c.args.self.now.links.entries (places_at c.args.self.now.inward.items) c.requires.agree.into;
+      targets = c.requires.agree.targets;
       refs = c.requires.agree.refs;
     } in
     on_err c.from_residual.result _ agree
@@ -36,10 +39,13 @@ returns-in_err-add_place-2-clause-part c =
     record {
       rise = c.requires.agree.rise;
       few = c.requires.agree.few;
+      outs = c.in_ok-add_place.ensures.count;
       out = c.in_ok-add_place.ensures.keeps at_source (same_key c.args.key) c.args.self.now.links.entries source_apart (sym c.source_end.ensures) (same_key_refl c.args.key)
-          (order_wider at_source (same_key c.args.key) c.args.self.now.links.entries c.args.self.now.outward.entries c.requires.agree.out);
+          (order_wider at_source (same_key c.args.key) c.args.self.now.links.entries (places_at c.args.self.now.outward.items) c.requires.agree.out);
+      ins = c.in_err-add_place-2.ensures.count;
       into = c.in_err-add_place-2.ensures.keeps at_target (same_key c.args.key) c.args.self.now.links.entries target_apart (sym c.target_end.ensures) (same_key_refl c.args.key)
-          (order_wider at_target (same_key c.args.key) c.args.self.now.links.entries c.args.self.now.inward.entries c.requires.agree.into);
+          (order_wider at_target (same_key c.args.key) c.args.self.now.links.entries (places_at c.args.self.now.inward.items) c.requires.agree.into);
+      targets = c.requires.agree.targets;
       refs = c.requires.agree.refs;
     } in
     on_err c.from_residual-in_err-add_place-2.result _ agree
@@ -50,11 +56,14 @@ returns-in_err-ready_ref-clause-part c =
     record {
       rise = c.requires.agree.rise;
       few = c.requires.agree.few;
+      outs = c.in_ok-add_place.ensures.count;
       out = c.in_ok-add_place.ensures.keeps at_source (same_key c.args.key) c.args.self.now.links.entries source_apart (sym c.source_end.ensures) (same_key_refl c.args.key)
-          (order_wider at_source (same_key c.args.key) c.args.self.now.links.entries c.args.self.now.outward.entries c.requires.agree.out);
+          (order_wider at_source (same_key c.args.key) c.args.self.now.links.entries (places_at c.args.self.now.outward.items) c.requires.agree.out);
+      ins = c.in_ok-add_place-2.ensures.count;
       into = c.in_ok-add_place-2.ensures.keeps at_target (same_key c.args.key) c.args.self.now.links.entries target_apart (sym c.target_end.ensures) (same_key_refl c.args.key)
-          (order_wider at_target (same_key c.args.key) c.args.self.now.links.entries c.args.self.now.inward.entries c.requires.agree.into);
-      refs = refs_kept (counts c.args.self.now) c.args.self.now.links.entries c.args.self.now.refs.entries c.ready_ref.new.refs.entries
+          (order_wider at_target (same_key c.args.key) c.args.self.now.links.entries (places_at c.args.self.now.inward.items) c.requires.agree.into);
+      targets = c.in_err-ready_ref.ensures.size;
+      refs = refs_kept (counts c.args.self.now) c.args.self.now.links.entries (counts_at c.args.self.now.refs.items) (counts_at c.ready_ref.new.refs.items)
           c.in_err-ready_ref.ensures.counts c.in_err-ready_ref.ensures.stay c.requires.agree.refs;
     } in
     on_err c.from_residual-in_err-ready_ref.result _ agree
@@ -66,14 +75,17 @@ returns-in_err-ready-clause-part c =
     record {
       rise = subst (λ (links : List Entry). Sorted links) same c.requires.agree.rise;
       few = subst (λ (links : List Entry). length (rows_of links) < 4294967296) same c.requires.agree.few;
-      out = subst (λ (links : List Entry). IsOrderOf at_source (same_key c.args.key) links c.add_place.new.order.entries) same
+      outs = c.in_ok-add_place.ensures.count;
+      out = subst (λ (links : List Entry). IsOrderOf at_source (same_key c.args.key) links (places_at c.add_place.new.order.items)) same
           (c.in_ok-add_place.ensures.keeps at_source (same_key c.args.key) c.args.self.now.links.entries source_apart (sym c.source_end.ensures) (same_key_refl c.args.key)
-          (order_wider at_source (same_key c.args.key) c.args.self.now.links.entries c.args.self.now.outward.entries c.requires.agree.out));
-      into = subst (λ (links : List Entry). IsOrderOf at_target (same_key c.args.key) links c.add_place-2.new.order.entries) same
+          (order_wider at_source (same_key c.args.key) c.args.self.now.links.entries (places_at c.args.self.now.outward.items) c.requires.agree.out));
+      ins = c.in_ok-add_place-2.ensures.count;
+      into = subst (λ (links : List Entry). IsOrderOf at_target (same_key c.args.key) links (places_at c.add_place-2.new.order.items)) same
           (c.in_ok-add_place-2.ensures.keeps at_target (same_key c.args.key) c.args.self.now.links.entries target_apart (sym c.target_end.ensures) (same_key_refl c.args.key)
-          (order_wider at_target (same_key c.args.key) c.args.self.now.links.entries c.args.self.now.inward.entries c.requires.agree.into));
-      refs = subst (λ (links : List Entry). AreRefsOf (counts c.args.self.now) links c.ready_ref.new.refs.entries) same
-          (refs_kept (counts c.args.self.now) c.args.self.now.links.entries c.args.self.now.refs.entries c.ready_ref.new.refs.entries
+          (order_wider at_target (same_key c.args.key) c.args.self.now.links.entries (places_at c.args.self.now.inward.items) c.requires.agree.into));
+      targets = c.in_ok-ready_ref.ensures.size;
+      refs = subst (λ (links : List Entry). AreRefsOf (counts c.args.self.now) links (counts_at c.ready_ref.new.refs.items)) same
+          (refs_kept (counts c.args.self.now) c.args.self.now.links.entries (counts_at c.args.self.now.refs.items) (counts_at c.ready_ref.new.refs.items)
           c.in_ok-ready_ref.ensures.counts c.in_ok-ready_ref.ensures.stay c.requires.agree.refs);
     } in
     on_err c.from_residual-in_err-ready.result _ agree
@@ -91,16 +103,19 @@ pub returns-clause-agree : goal.returns-clause-agree
 returns-clause-agree c = record {
   rise = c.in_ok-ready.ensures.rise;
   few = subst (λ (rs : List EdgeRow). length rs < 4294967296) (sym (rows_after c)) c.requires.agree.few;
-  out = order_grown at_source c.args.self.now.links.entries c.ready.new.self.entries c.add_place.new.order.entries c.args.key None c.in_ok-ready.ensures.linked
-      (ap (place_of c.add_place.new.order.entries) (sym c.source_end.ensures) ∙ c.in_ok-add_place.ensures.there)
+  outs = c.in_ok-add_place.ensures.count;
+  out = order_grown at_source c.args.self.now.links.entries c.ready.new.self.entries (places_at c.add_place.new.order.items) c.args.key None c.in_ok-ready.ensures.linked
+      (ap (place_of (places_at c.add_place.new.order.items)) (sym c.source_end.ensures) ∙ c.in_ok-add_place.ensures.there)
       (c.in_ok-add_place.ensures.keeps at_source (same_key c.args.key) c.args.self.now.links.entries source_apart (sym c.source_end.ensures) (same_key_refl c.args.key)
-      (order_wider at_source (same_key c.args.key) c.args.self.now.links.entries c.args.self.now.outward.entries c.requires.agree.out));
-  into = order_grown at_target c.args.self.now.links.entries c.ready.new.self.entries c.add_place-2.new.order.entries c.args.key None c.in_ok-ready.ensures.linked
-      (ap (place_of c.add_place-2.new.order.entries) (sym c.target_end.ensures) ∙ c.in_ok-add_place-2.ensures.there)
+      (order_wider at_source (same_key c.args.key) c.args.self.now.links.entries (places_at c.args.self.now.outward.items) c.requires.agree.out));
+  ins = c.in_ok-add_place-2.ensures.count;
+  into = order_grown at_target c.args.self.now.links.entries c.ready.new.self.entries (places_at c.add_place-2.new.order.items) c.args.key None c.in_ok-ready.ensures.linked
+      (ap (place_of (places_at c.add_place-2.new.order.items)) (sym c.target_end.ensures) ∙ c.in_ok-add_place-2.ensures.there)
       (c.in_ok-add_place-2.ensures.keeps at_target (same_key c.args.key) c.args.self.now.links.entries target_apart (sym c.target_end.ensures) (same_key_refl c.args.key)
-      (order_wider at_target (same_key c.args.key) c.args.self.now.links.entries c.args.self.now.inward.entries c.requires.agree.into));
-  refs = refs_grown (counts c.args.self.now) c.args.self.now.links.entries c.ready.new.self.entries c.ready_ref.new.refs.entries c.args.key (rows_after c)
+      (order_wider at_target (same_key c.args.key) c.args.self.now.links.entries (places_at c.args.self.now.inward.items) c.requires.agree.into));
+  targets = c.in_ok-ready_ref.ensures.size;
+  refs = refs_grown (counts c.args.self.now) c.args.self.now.links.entries c.ready.new.self.entries (counts_at c.ready_ref.new.refs.items) c.args.key (rows_after c)
       (room_other c.args.self.now.links.entries c.ready.new.self.entries c.args.key None c.in_ok-ready.ensures.linked) c.in_ok-ready_ref.ensures.place
-      (refs_kept (counts c.args.self.now) c.args.self.now.links.entries c.args.self.now.refs.entries c.ready_ref.new.refs.entries
+      (refs_kept (counts c.args.self.now) c.args.self.now.links.entries (counts_at c.args.self.now.refs.items) (counts_at c.ready_ref.new.refs.items)
       c.in_ok-ready_ref.ensures.counts c.in_ok-ready_ref.ensures.stay c.requires.agree.refs);
 }

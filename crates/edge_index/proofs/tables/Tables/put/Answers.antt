@@ -11,7 +11,8 @@ use Rattle.delf_model.specs.RuleSet.{is_refcount_shape}
 use Rattle.delf_model.specs.Graph.{put_edge}
 use Rattle.edge_index.specs.Keys.{edge_cmp}
 use Rattle.edge_index.specs.Links.{rows_of, link_of, link_at}
-use Rattle.edge_index.specs.Ends.{at_source, at_target}
+use Rattle.edge_index.specs.Ends.{places_at, at_source, at_target}
+use Rattle.edge_index.specs.Refs.{counts_at}
 use Rattle.edge_index.specs.Tables.{counts}
 use Rattle.edge_index.proofs.Rises.{length_put}
 use Rattle.edge_index.proofs.Rows.{rows_put, find_row, room_same}
@@ -42,10 +43,13 @@ returns-clause-agree c =
       rise = subst (λ (keys : List EdgeKey). IsStrictlySortedBy edge_cmp keys) (sym (keys_after c)) c.requires.agree.rise;
       few = subst (λ (rs : List EdgeRow). length rs < 4294967296) (sym (rows_after c))
           (let one = length_put c.args.row.now (rows_of c.args.self.now.links.entries) in let room = c.requires.room in omega arith);
-      out = order_kept at_source c.args.self.now.links.entries c.put.new.self.entries c.args.self.now.outward.entries less more c.requires.agree.out;
-      into = order_kept at_target c.args.self.now.links.entries c.put.new.self.entries c.args.self.now.inward.entries less more c.requires.agree.into;
-      refs = refs_put (counts c.args.self.now) c.args.row.now c.args.self.now.links.entries c.put.new.self.entries c.args.self.now.refs.entries
-          c.count_up.new.refs.entries c.is_counting-counts.result
+      outs = c.requires.agree.outs;
+      out = order_kept at_source c.args.self.now.links.entries c.put.new.self.entries (places_at c.args.self.now.outward.items) less more c.requires.agree.out;
+      ins = c.requires.agree.ins;
+      into = order_kept at_target c.args.self.now.links.entries c.put.new.self.entries (places_at c.args.self.now.inward.items) less more c.requires.agree.into;
+      targets = c.count_up.ensures.size;
+      refs = refs_put (counts c.args.self.now) c.args.row.now c.args.self.now.links.entries c.put.new.self.entries (counts_at c.args.self.now.refs.items)
+          (counts_at c.count_up.new.refs.items) c.is_counting-counts.result
           (c.is_counting-counts.ensures ∙ ap (λ (shapes : List EdgeShape). is_refcount_shape (slice_get shapes c.args.row.now.key.edge)) c.deref.ensures.value)
           (rows_after c) c.requires.free less c.count_up.ensures.count c.count_up.ensures.places c.requires.agree.refs;
     }
