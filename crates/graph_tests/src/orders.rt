@@ -32,12 +32,26 @@ const PAGE: u8 = 0;
 
 const REFS: u8 = 0;
 
+const POST: u8 = 1;
+
+const COMMENT: u8 = 2;
+
+const MEDIA: u8 = 3;
+
+const TOKEN: u8 = 4;
+
+const AUDIT: u8 = 5;
+
 // Users own photos and sessions, and like photos; albums hold photos.
 const PHOTOS: &[u8] =
     b"schema 1\nwindow 100\nobject user directly\nobject photo by_any\nobject album directly\nobject session short_ttl 60\nedge owns user photo deep\nedge likes user photo shallow\nedge holds album photo refcount\nedge uses user session deep\n";
 
 // Pages refer to pages.
 const PAGES: &[u8] = b"schema 1\nwindow 0\nobject page directly\nedge refs page page refcount\n";
+
+// Users write posts and comments on them; posts show media, and users log in and are seen.
+const ACCOUNTS: &[u8] =
+    b"schema 1\nwindow 2592000\nobject user directly\nobject post directly\nobject comment directly\nobject media by_any\nobject token short_ttl 3600\nobject audit not_deleted\nedge wrote user post deep\nedge made user comment deep\nedge on post comment deep\nedge shows post media refcount\nedge likes user post shallow\nedge login user token deep\nedge seen user audit shallow\n";
 
 // The rules of a schema.
 fn rules_of(alloc: Global, schema: &[u8]) -> Result<Rules, Fail> {
@@ -581,6 +595,61 @@ fn a_page_that_refers_to_itself_is_held_by_that(rt: HostRuntime) -> Result<(), F
             (Order::Work(10), Answer::Idle(1)),
             (Order::Graph, Answer::Graph(1, 0)),
             (Order::Object(2), Answer::Free(PAGE, 2, 0)),
+        ],
+    )
+}
+
+#[test]
+fn an_account_goes_but_for_what_others_keep(rt: HostRuntime) -> Result<(), Fail> {
+    let one = id(1)?;
+    let (wrote, made, on, shows, likes, login, seen) = (0, 1, 2, 3, 4, 5, 6);
+    plays(
+        &rt,
+        rt.alloc(),
+        ACCOUNTS,
+        1000,
+        &[
+            (Order::Create(USER, 1, 3), Answer::At(0)),
+            (Order::Create(USER, 2, 3), Answer::At(1)),
+            (Order::Create(POST, 10, 2), Answer::At(2)),
+            (Order::Create(COMMENT, 11, 2), Answer::At(3)),
+            (Order::Create(MEDIA, 20, 3), Answer::At(4)),
+            (Order::Create(TOKEN, 30, 1), Answer::At(5)),
+            (Order::Create(AUDIT, 40, 3), Answer::At(6)),
+            (Order::Link(wrote, 1, 10), Answer::At(7)),
+            (Order::Link(made, 2, 11), Answer::At(8)),
+            (Order::Link(on, 10, 11), Answer::At(9)),
+            (Order::Link(shows, 10, 20), Answer::At(10)),
+            (Order::Link(likes, 2, 10), Answer::At(11)),
+            (Order::Link(login, 1, 30), Answer::At(12)),
+            (Order::Link(seen, 1, 40), Answer::At(13)),
+            (Order::Delete(1, 7), Answer::At(14)),
+            (Order::Work(100), Answer::Idle(12)),
+            (
+                Order::Line(0),
+                line(
+                    14,
+                    JobName::Named(7),
+                    one,
+                    5,
+                    7,
+                    Status::Done {
+                        erased: 5,
+                        cut: 7,
+                        last: 1000,
+                    },
+                ),
+            ),
+            (Order::Graph, Answer::Graph(2, 0)),
+            (Order::Object(2), Answer::Free(USER, 1, 3)),
+            (Order::Object(40), Answer::Free(AUDIT, 6, 3)),
+            (Order::Restore(7), Answer::At(27)),
+            (Order::Work(100), Answer::Idle(12)),
+            (Order::Graph, Answer::Graph(7, 7)),
+            (
+                Order::Status(7),
+                Answer::Status(Status::Restored { put: 12, listed: 0 }),
+            ),
         ],
     )
 }
