@@ -89,7 +89,7 @@ module _ (schema : Schema) (Q : World → Type 0)
   move_carries w next (moves.FallsInStep what first is) legal q = subst Q (sym is) (same w w.clock true (Some (interrupted w what [])) q)
   move_carries w next (moves.FallsReading is) legal q = subst Q (sym is) (same w w.clock true None q)
   move_carries w next (moves.Mends is) legal q = subst Q (sym is) (same w w.clock false None q)
-  move_carries w next (moves.Enters it down beside is) legal q = enters w next it is legal q
+  move_carries w next (moves.Enters it down beside line is) legal q = enters w next it is legal q
   move_carries w next (moves.Runs quiet workers turns lanes before now text known runs) legal q = absurd known
 
 -- seals

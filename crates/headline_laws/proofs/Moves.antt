@@ -9,6 +9,7 @@ use Rattle.delf_model.specs.declared.entry.What.{What}
 use Rattle.delf_model.specs.declared.script.Command.{Command}
 use Rattle.delf_model.specs.declared.script.Command.TheVariants.{Submit, Work, Tick, Get, Show, Job, Jobs, Report, Fail, Crash, Par}
 use Rattle.delf_model.specs.declared.script.Lane.{Lane}
+use Rattle.delf_model.specs.Legal.{Legal}
 use Rattle.delf_book.specs.Parts.{Interrupted}
 use Rattle.delf_book.specs.Books.{given_by}
 use Rattle.job_report.specs.declared.work.WorkEnd.{WorkEnd}
@@ -28,7 +29,7 @@ pub data Move (schema : Schema) (known : Command → Type 0) (w next : World) : 
   FallsInStep : (what : What) → next_step w ≡ Some what → next ≡ fallen w (Some (interrupted w what [])) → Move schema known w next
   FallsReading : next ≡ fallen w None → Move schema known w next
   Mends : next ≡ mended w → Move schema known w next
-  Enters : (it : Interrupted) → w.down ≡ true → w.beside ≡ Some it → next ≡ entered w it → Move schema known w next
+  Enters : (it : Interrupted) → w.down ≡ true → w.beside ≡ Some it → Legal w.rules (w.history ++ it.entry ∷ []) → next ≡ entered w it → Move schema known w next
   Runs : (quiet : Bool) (workers turns : ℕ) (lanes : List Lane) (before now : ℕ) (text : List ℕ) → known (Par quiet workers turns lanes) →
       RunsLanes schema w quiet lanes before now text next → Move schema known w next
 
@@ -67,7 +68,7 @@ module _ (schema : Schema) (known : Command → Type 0) (Q : World → Type 0) (
 
   crash_keeps : (w next : World) (before now : ℕ) (text : List ℕ) → Crashes w before now text next → Q w → Q next
   crash_keeps w next before now text (serial.Crashes.Keeps count text_is next_is) q = keeps w next (Mends next_is) q
-  crash_keeps w next before now text (serial.Crashes.Enters it down beside count text_is next_is) q = keeps w next (Enters it down beside next_is) q
+  crash_keeps w next before now text (serial.Crashes.Enters it down beside legal count text_is next_is) q = keeps w next (Enters it down beside legal next_is) q
 
   block_keeps : (w next : World) (quiet : Bool) (workers turns : ℕ) (lanes : List Lane) (before now : ℕ) (text : List ℕ) → known (Par quiet workers turns lanes) →
       Blocks schema w quiet lanes before now text next → Q w → Q next

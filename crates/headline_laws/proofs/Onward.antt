@@ -16,13 +16,13 @@ use Rattle.delf_model.proofs.Runs.{Legal_push, legal_take, legal_first}
 use Rattle.delf_book.specs.Parts.{Interrupted}
 use Rattle.delf_book.specs.Books.{given_by}
 use Rattle.delf_service.specs.declared.standing.Key.{Key}
-use Rattle.documents.specs.Names.{IsNumberedCall, IsNumberedCommand, HasNoLanes}
+use Rattle.documents.specs.Names.{IsNumberedCall, IsNumberedCommand}
 use Rattle.history_laws.proofs.Whole.{legal_is_sound}
 use Rattle.seat_lock.specs.Lists.{StartsWith, StartsWith-itself, StartsWith-chain}
 use Rattle.script_runner.specs.Blocks.{RunsLanes}
 use Rattle.script_runner.specs.Serial.{Script, StepsTo}
-use Rattle.script_runner.specs.Worlds.{World, state_of, entry_now, interrupted, entered, with_entry, fallen, mended, later}
-use Rattle.headline_laws.specs.Onward.{IsFirst, AreNumbered, AreSerial, GoesOn, IsSoundThroughout}
+use Rattle.script_runner.specs.Worlds.{World, state_of, entry_now, interrupted, entered}
+use Rattle.headline_laws.specs.Onward.{AreNumbered, GoesOn, IsSoundThroughout}
 use Rattle.headline_laws.proofs.Legal.{answer_legal, step_first}
 use Rattle.headline_laws.proofs.Moves.{Move, Stays, Ticks, Calls, Steps, FallsInCall, FallsInStep, FallsReading, Mends, Enters, Runs, script_keeps}
 
@@ -56,7 +56,7 @@ move_goes_on schema known w next (FallsInCall asked what is answered is_next) = 
 move_goes_on schema known w next (FallsInStep what first is_next) = subst (GoesOn w) (sym is_next) (record { rules = refl; history = StartsWith-itself w.history })
 move_goes_on schema known w next (FallsReading is_next) = subst (GoesOn w) (sym is_next) (record { rules = refl; history = StartsWith-itself w.history })
 move_goes_on schema known w next (Mends is_next) = subst (GoesOn w) (sym is_next) (record { rules = refl; history = StartsWith-itself w.history })
-move_goes_on schema known w next (Enters it down beside is_next) = subst (GoesOn w) (sym is_next) (record { rules = refl; history = (_, refl) })
+move_goes_on schema known w next (Enters it down beside legal is_next) = subst (GoesOn w) (sym is_next) (record { rules = refl; history = (_, refl) })
 move_goes_on schema known w next (Runs quiet workers turns lanes before now text is runs) = record {
   rules = block_rules schema w next quiet lanes before now text runs;
   history = block_history schema w next quiet lanes before now text runs;
@@ -72,74 +72,49 @@ history_goes_on schema first commands before now text last script =
     script_keeps schema (λ (command : Command). Unit {0}) (GoesOn first) (λ w next move so_far. onward_then first w next so_far (move_goes_on schema _ w next move))
     first last commands before now text (all_known commands) script (same_world first first refl)
 
--- it stays legal where there are no blocks
+-- it stays legal
 
--- a world whose history is legal, under these rules, and while it is down what stands beside it may come next
+-- a world whose history is legal, under these rules
 pub record Keeps (rules : RuleSet) (w : World) : Type 0 where
   pub ruled : w.rules ≡ rules
   pub legal : Legal w.rules w.history
-  pub beside : w.down ≡ true → (it : Interrupted) → w.beside ≡ Some it → is_legal (state_of w) it.entry ≡ true
-
--- a world that is up
-up_keeps : (rules : RuleSet) (w : World) → w.rules ≡ rules → Legal w.rules w.history → w.down ≡ false → Keeps rules w
-up_keeps rules w ruled legal up = record { ruled = ruled; legal = legal; beside = λ down it some. absurd (cc (up, down)) }
 
 -- with a legal entry more
 entered_keeps : (rules : RuleSet) (w : World) (it : Interrupted) → Keeps rules w → is_legal (state_of w) it.entry ≡ true → Keeps rules (entered w it)
-entered_keeps rules w it keeps line = up_keeps rules (entered w it) keeps.ruled (Legal_push w.rules w.history it.entry keeps.legal line) refl
-
-beside_line : (w : World) (one it : Interrupted) → is_legal (state_of w) one.entry ≡ true → Some one ≡ Some it → is_legal (state_of w) it.entry ≡ true
-beside_line w one it line is = let same : one ≡ it = cc is in subst (λ (x : Interrupted). is_legal (state_of w) x.entry ≡ true) same line
-
-fallen_keeps : (rules : RuleSet) (w : World) (it : Interrupted) → Keeps rules w → is_legal (state_of w) it.entry ≡ true → Keeps rules (fallen w (Some it))
-fallen_keeps rules w it keeps line = record { ruled = keeps.ruled; legal = keeps.legal; beside = λ down other is. beside_line w it other line is }
-
--- commands without blocks, whose numbers are those of the rules
-abbrev pub IsSerial : RuleSet → Command → Type 0
-IsSerial rules command = IsNumberedCommand rules command × HasNoLanes command
+entered_keeps rules w it keeps line = record { ruled = keeps.ruled; legal = Legal_push w.rules w.history it.entry keeps.legal line }
 
 call_numbered : (rules : RuleSet) (w : World) (asked : Call) → w.rules ≡ rules → IsNumberedCall rules asked → IsNumberedCall w.rules asked
 call_numbered rules w asked ruled numbered = subst (λ (r : RuleSet). IsNumberedCall r asked) (sym ruled) numbered
-
-move_keeps : (schema : Schema) (rules : RuleSet) (w next : World) → Move schema (IsSerial rules) w next → Keeps rules w → Keeps rules next
-move_keeps schema rules w next (Stays is) keeps = subst (Keeps rules) (sym is) keeps
-move_keeps schema rules w next (Ticks seconds is) keeps =
-    subst (Keeps rules) (sym is) (record { ruled = keeps.ruled; legal = keeps.legal; beside = keeps.beside })
-move_keeps schema rules w next (Calls asked what is answered next_is) keeps =
-    subst (Keeps rules) (sym next_is)
-    (entered_keeps rules w (interrupted w what (given_by asked)) keeps (answer_legal w asked what keeps.legal (call_numbered rules w asked keeps.ruled is.0) answered))
-move_keeps schema rules w next (Steps steps) keeps =
-    subst (Keeps rules) (sym steps.is_next) (entered_keeps rules w (interrupted w steps.what []) keeps (step_first w steps.what keeps.legal steps.is_first).1)
-move_keeps schema rules w next (FallsInCall asked what is answered next_is) keeps =
-    subst (Keeps rules) (sym next_is)
-    (fallen_keeps rules w (interrupted w what (given_by asked)) keeps (answer_legal w asked what keeps.legal (call_numbered rules w asked keeps.ruled is.0) answered))
-move_keeps schema rules w next (FallsInStep what first next_is) keeps =
-    subst (Keeps rules) (sym next_is) (fallen_keeps rules w (interrupted w what []) keeps (step_first w what keeps.legal first).1)
-move_keeps schema rules w next (FallsReading next_is) keeps =
-    subst (Keeps rules) (sym next_is) (record { ruled = keeps.ruled; legal = keeps.legal; beside = λ down it some. absurd (cc some) })
-move_keeps schema rules w next (Mends next_is) keeps = subst (Keeps rules) (sym next_is) (up_keeps rules (mended w) keeps.ruled keeps.legal refl)
-move_keeps schema rules w next (Enters it down beside next_is) keeps = subst (Keeps rules) (sym next_is) (entered_keeps rules w it keeps (keeps.beside down it beside))
-move_keeps schema rules w next (Runs quiet workers turns lanes before now text is runs) keeps = absurd is.1
-
-all_serial : (rules : RuleSet) (commands : List Command) → AllByRecursion (IsNumberedCommand rules) commands → AllByRecursion HasNoLanes commands →
-    AllByRecursion (IsSerial rules) commands
-all_serial rules [] numbered none = tt
-all_serial rules (command ∷ more) numbered none = ((numbered.0, none.0), all_serial rules more numbered.1 none.1)
-
-pub stays_legal : (schema : Schema) (first : World) (commands : List Command) (before now : ℕ) (text : List ℕ) (last : World) → IsFirst first →
-    AreNumbered first.rules commands → AreSerial commands → Script schema first commands before now text last → Legal last.rules last.history
-stays_legal schema first commands before now text last is numbered none script =
-    (script_keeps schema (IsSerial first.rules) (Keeps first.rules) (move_keeps schema first.rules) first last commands before now text
-    (all_serial first.rules commands (recursion_from_All _ commands numbered) (recursion_from_All _ commands none)) script
-    (up_keeps first.rules first refl is.legal is.up)).legal
-
--- and so does a block
 
 pub block_legal : (schema : Schema) (w next : World) (quiet : Bool) (lanes : List Lane) (before now : ℕ) (text : List ℕ) → RunsLanes schema w quiet lanes before now text next →
     Legal next.rules next.history
 block_legal schema w next quiet lanes before now text runs =
     subst (λ (h : List Entry). Legal next.rules h) runs.shows_final.history
     (subst (λ (rules : RuleSet). Legal rules runs.final.history) runs.shows_final.rules runs.has.legal)
+
+move_keeps : (schema : Schema) (rules : RuleSet) (w next : World) → Move schema (IsNumberedCommand rules) w next → Keeps rules w → Keeps rules next
+move_keeps schema rules w next (Stays is) keeps = subst (Keeps rules) (sym is) keeps
+move_keeps schema rules w next (Ticks seconds is) keeps = subst (Keeps rules) (sym is) (record { ruled = keeps.ruled; legal = keeps.legal })
+move_keeps schema rules w next (Calls asked what is answered next_is) keeps =
+    subst (Keeps rules) (sym next_is)
+    (entered_keeps rules w (interrupted w what (given_by asked)) keeps (answer_legal w asked what keeps.legal (call_numbered rules w asked keeps.ruled is) answered))
+move_keeps schema rules w next (Steps steps) keeps =
+    subst (Keeps rules) (sym steps.is_next) (entered_keeps rules w (interrupted w steps.what []) keeps (step_first w steps.what keeps.legal steps.is_first).1)
+move_keeps schema rules w next (FallsInCall asked what is answered next_is) keeps = subst (Keeps rules) (sym next_is) (record { ruled = keeps.ruled; legal = keeps.legal })
+move_keeps schema rules w next (FallsInStep what first next_is) keeps = subst (Keeps rules) (sym next_is) (record { ruled = keeps.ruled; legal = keeps.legal })
+move_keeps schema rules w next (FallsReading next_is) keeps = subst (Keeps rules) (sym next_is) (record { ruled = keeps.ruled; legal = keeps.legal })
+move_keeps schema rules w next (Mends next_is) keeps = subst (Keeps rules) (sym next_is) (record { ruled = keeps.ruled; legal = keeps.legal })
+move_keeps schema rules w next (Enters it down beside legal next_is) keeps = subst (Keeps rules) (sym next_is) (record { ruled = keeps.ruled; legal = legal })
+move_keeps schema rules w next (Runs quiet workers turns lanes before now text is runs) keeps = record {
+  ruled = block_rules schema w next quiet lanes before now text runs ∙ keeps.ruled;
+  legal = block_legal schema w next quiet lanes before now text runs;
+}
+
+pub stays_legal : (schema : Schema) (first : World) (commands : List Command) (before now : ℕ) (text : List ℕ) (last : World) → Legal first.rules first.history →
+    AreNumbered first.rules commands → Script schema first commands before now text last → Legal last.rules last.history
+stays_legal schema first commands before now text last legal numbered script =
+    (script_keeps schema (IsNumberedCommand first.rules) (Keeps first.rules) (move_keeps schema first.rules) first last commands before now text
+    (recursion_from_All _ commands numbered) script (record { ruled = refl; legal = legal })).legal
 
 -- each part of a legal history
 

@@ -162,8 +162,8 @@ module _ (schema : Schema) (w : World) (up : w.down ≡ false) where
   two_crashes b1 n1 b2 n2 t1 t2 x1 x2 (serial.Crashes.Keeps c t x) (serial.Crashes.Keeps c' t' x') =
       let world : x1 ≡ x2 = x ∙ sym x' in
       record { text = t ∙ (ap (λ (y : World). opened_text (length y.history)) world ∙ sym t'); world = world }
-  two_crashes b1 n1 b2 n2 t1 t2 x1 x2 (serial.Crashes.Keeps c t x) (serial.Crashes.Enters it down beside c' t' x') = absurd (cc (up, down))
-  two_crashes b1 n1 b2 n2 t1 t2 x1 x2 (serial.Crashes.Enters it down beside c t x) two = absurd (cc (up, down))
+  two_crashes b1 n1 b2 n2 t1 t2 x1 x2 (serial.Crashes.Keeps c t x) (serial.Crashes.Enters it down beside legal c' t' x') = absurd (cc (up, down))
+  two_crashes b1 n1 b2 n2 t1 t2 x1 x2 (serial.Crashes.Enters it down beside legal c t x) two = absurd (cc (up, down))
 
   two_serves : (command : Command) (b1 n1 b2 n2 : ℕ) (t1 t2 : List ℕ) (x1 x2 : World) → HasNoLanes command → (Rose b1 n1 → ⊥) → (Rose b2 n2 → ⊥) →
       Serves schema w command b1 n1 t1 x1 → Serves schema w command b2 n2 t2 x2 → SameAfter t1 t2 x1 x2
@@ -207,7 +207,7 @@ module _ (schema : Schema) (w : World) (up : w.down ≡ false) (before now : ℕ
 
   crash_up : Crashes w before now text next → next.down ≡ false
   crash_up (serial.Crashes.Keeps c t is) = ap (λ (x : World). x.down) is
-  crash_up (serial.Crashes.Enters it down beside c t is) = ap (λ (x : World). x.down) is
+  crash_up (serial.Crashes.Enters it down beside legal c t is) = ap (λ (x : World). x.down) is
 
   serve_up : (command : Command) → HasNoLanes command → Serves schema w command before now text next → next.down ≡ false
   serve_up (Submit asked) no_lanes one = submit_up asked one
@@ -247,7 +247,7 @@ module _ (schema : Schema) (w : World) (before now : ℕ) (text : List ℕ) (nex
 
   crash_counted : Crashes w before now text next → Counted before now
   crash_counted (serial.Crashes.Keeps count t is) = inl count
-  crash_counted (serial.Crashes.Enters it down beside count t is) = inl count
+  crash_counted (serial.Crashes.Enters it down beside legal count t is) = inl count
 
   serve_counted : (command : Command) → HasNoLanes command → Serves schema w command before now text next → Counted before now
   serve_counted (Submit asked) no_lanes one = submit_counted asked one

@@ -198,7 +198,7 @@ module _ (schema : Schema) (first : World) (commands : List Command) (before now
 
   by_crash : (w next : World) (b m : ℕ) (line : List ℕ) → Crashes w b m line next → length w.history ≤ p → slice_get next.history p ≡ Some e → Found w
   by_crash w next b m line (serial.Crashes.Keeps count is left) low there = by_same w next (ap (λ (y : World). y.history) left) low there
-  by_crash w next b m line (serial.Crashes.Enters it down beside count is left) low there =
+  by_crash w next b m line (serial.Crashes.Enters it down beside legal count is left) low there =
       let one = one_behind w.history it.entry p e low (subst (λ (y : World). slice_get y.history p ≡ Some e) left there) in
       inr (record { it = it; down = down; beside = beside; place = one.place; entry_is = one.same })
 
@@ -249,7 +249,7 @@ module _ (schema : Schema) (w next : World) (b m : ℕ) (line : List ℕ) (down 
 
   crash_down : Crashes w b m line next → StaysDown w next
   crash_down (serial.Crashes.Keeps count is left) = let up : next.down ≡ false = ap (λ (y : World). y.down) left in absurd (cc (up, still))
-  crash_down (serial.Crashes.Enters it d beside count is left) = let up : next.down ≡ false = ap (λ (y : World). y.down) left in absurd (cc (up, still))
+  crash_down (serial.Crashes.Enters it d beside legal count is left) = let up : next.down ≡ false = ap (λ (y : World). y.down) left in absurd (cc (up, still))
 
   block_down : (quiet : Bool) (lanes : List Lane) → Blocks schema w quiet lanes b m line next → StaysDown w next
   block_down quiet lanes (serial.Blocks.Runs runs) = let up : w.down ≡ false = runs.up in absurd (cc (up, down))

@@ -1,7 +1,6 @@
 -- What a script makes of the world that it begins with.
-use Rattle.std.specs.Prelude.{◌≡◌, ℕ, false, List, Option, None, take}
+use Rattle.std.specs.Prelude.{◌≡◌, ℕ, false, List, None, take}
 use Rattle.std.specs.List.{All}
-use Rattle.delf_model.specs.declared.entry.Entry.{Entry}
 use Rattle.delf_model.specs.declared.script.Command.{Command}
 use Rattle.delf_model.specs.RuleSet.{RuleSet}
 use Rattle.delf_model.specs.Legal.{Legal}
@@ -10,7 +9,7 @@ use Rattle.documents.specs.Names.{IsNumberedCommand, HasNoLanes}
 use Rattle.seat_lock.specs.Lists.{StartsWith}
 use Rattle.script_runner.specs.Worlds.{World}
 
--- a world that a script may begin with, as an opening finds one: its history is legal, it is up, and nothing is beside it
+-- a world as an opening finds one: its history is legal, it is up, and nothing is beside it
 pub record IsFirst (w : World) : Type 0 where
   pub legal : Legal w.rules w.history
   pub up : w.down ≡ false

@@ -15,7 +15,7 @@ ghost use Rattle.delf_model.specs.Legal.{Legal};
 ghost use Rattle.script_runner.specs.Blocks.{RunsLanes};
 ghost use Rattle.script_runner.specs.Serial.{Script};
 ghost use Rattle.script_runner.specs.Worlds.{World};
-ghost use Rattle.headline_laws.specs.Onward.{IsFirst, AreNumbered, AreSerial, GoesOn, IsSoundThroughout};
+ghost use Rattle.headline_laws.specs.Onward.{AreNumbered, AreSerial, GoesOn, IsSoundThroughout};
 
 /// The first history begins the last one, and the rules stay, whatever a script meets.
 pub fn history_goes_on()
@@ -23,10 +23,10 @@ pub fn history_goes_on()
         Script schema first commands before now text last → GoesOn first last }
 {}
 
-/// A script without blocks, from a world as an opening finds it, leads to a legal history, whatever it meets.
+/// A script leads from a legal history to a legal one, whatever it meets: with its blocks, and over each opening behind a fault.
 pub fn history_stays_legal()
     ensures { (schema : Schema) (first : World) (commands : List Command) (before now : ℕ) (text : List ℕ) (last : World) →
-        IsFirst first → AreNumbered first.rules commands → AreSerial commands → Script schema first commands before now text last →
+        Legal first.rules first.history → AreNumbered first.rules commands → Script schema first commands before now text last →
         Legal last.rules last.history }
 {}
 

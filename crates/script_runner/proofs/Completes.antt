@@ -12,13 +12,13 @@ use Rattle.script_runner.specs.Complete.{IsQuiet, IsStore, EndsWell}
 use Rattle.documents.proofs.Once.{document_rules, no_fault}
 use Rattle.script_runner.specs.Outcomes.{RunCause, IsBad}
 
-not_bad : (plain : Type 0) (rules other : RuleSet) (seen : Areas) (area : Area) (at : ℕ) → rules ≡ other → plain → IsStore other seen → (plain → IsBad rules seen area at) → ⊥
-not_bad plain rules other seen area at same is store bad =
+not_bad : (plain : Type 0) (rules other : RuleSet) (seen : Areas) (images : Areas → Type 0) (area : Area) (at : ℕ) → rules ≡ other → plain → IsStore other seen → (plain → IsBad rules seen images area at) → ⊥
+not_bad plain rules other seen images area at same is store bad =
     (bad is).stands_not store.history store.payloads (subst (λ (r : RuleSet). StandBut r store.history store.payloads seen) (sym same) store.stands)
 
-module _ (blocks : Bool) (plain : Type 0) (seen : Areas) (told : Bool) (left : List ℕ) (read_rose write_rose rig_rose : Type 0) (quiet : IsQuiet read_rose write_rose rig_rose) where
+module _ (blocks : Bool) (plain : Type 0) (seen : Areas) (images : Areas → Type 0) (told : Bool) (left : List ℕ) (read_rose write_rose rig_rose : Type 0) (quiet : IsQuiet read_rose write_rose rig_rose) where
   pub ends_well : (request : Option Request) (status : Status) →
-      RunCause blocks request told left read_rose write_rose rig_rose (λ rules area at. plain → IsBad rules seen area at) status →
+      RunCause blocks request told left read_rose write_rose rig_rose (λ rules area at. plain → IsBad rules seen images area at) status →
       EndsWell blocks request told left (λ rules. plain × IsStore rules seen) status
   ends_well None Usage cause = refl
   ends_well None (WriteFault done) cause = absurd (quiet.sink cause.1)
@@ -37,7 +37,7 @@ module _ (blocks : Bool) (plain : Type 0) (seen : Areas) (told : Bool) (left : L
   ends_well (Some (Run start)) (Down len) cause = λ document is read store. absurd (quiet.rig cause.0)
   ends_well (Some (Run start)) (BadStore area at) cause = λ document is read store.
       let of = cause is in
-      absurd (not_bad plain of.document.rules document.rules seen area at (document_rules blocks left of.document document of.read read) store.0 store.1 of.holds)
+      absurd (not_bad plain of.document.rules document.rules seen images area at (document_rules blocks left of.document document of.read read) store.0 store.1 of.holds)
   ends_well (Some Check) Done cause = λ document is read. tt
   ends_well (Some Check) Usage cause = λ document is read. cause
   ends_well (Some Check) (BadDocument line) cause = λ document is read. let has = cause is in absurd (no_fault blocks left document has.fault read has.refused)
@@ -54,4 +54,4 @@ module _ (blocks : Bool) (plain : Type 0) (seen : Areas) (told : Bool) (left : L
   ends_well (Some (Load n)) (OutOfMemory done) cause = λ document load store. tt
   ends_well (Some (Load n)) (Down len) cause = λ document load store. absurd (quiet.rig cause)
   ends_well (Some (Load n)) (BadStore area at) cause = λ document load store.
-      absurd (not_bad plain cause.document.rules document.rules seen area at (cause.load.rules ∙ sym load.rules) store.0 store.1 cause.holds)
+      absurd (not_bad plain cause.document.rules document.rules seen images area at (cause.load.rules ∙ sym load.rules) store.0 store.1 cause.holds)

@@ -51,18 +51,18 @@ kept may_leave faults schema pick old now clock e seen rules up alone count foun
     }
 
 came : {G R : Type 0} → (may_leave : R → Areas → Type 0) (faults : R → ℕ) (schema : Schema) (pick : ℕ) (old now : Booked G R) (clock : ℕ) (e : Payloads) (seen : Areas)
-    (it : Interrupted) → old.down ≡ true → old.beside ≡ Some it → now.rules ≡ old.rules → now.down ≡ false → now.beside ≡ None →
+    (it : Interrupted) → old.down ≡ true → old.beside ≡ Some it → Legal now.rules now.history → now.rules ≡ old.rules → now.down ≡ false → now.beside ≡ None →
     faults now.rig ≡ faults old.rig → Found may_leave old.rules seen now →
     StandBut old.rules (old.history ++ it.entry ∷ []) (payloads_after digest (after old.rules old.history) it.entry it.payload e) seen →
     Carried may_leave faults schema (Crash pick) (world_of old clock e) (faults old.rig) now clock (opened_text (length now.history))
-came may_leave faults schema pick old now clock e seen it down beside rules up alone count found stands =
+came may_leave faults schema pick old now clock e seen it down beside legal rules up alone count found stands =
     let history : List Entry = old.history ++ it.entry ∷ [] in
     let next : Payloads = payloads_after digest (after old.rules old.history) it.entry it.payload e in
     let at = found history next stands in
     let is = opened_world old.rules now history clock next rules at.0 up alone in
     record {
       payloads = next;
-      serves = serial.Crashes.Enters it down beside count refl is;
+      serves = serial.Crashes.Enters it down beside (subst (λ (h : List Entry). Legal old.rules h) at.0 (subst (λ (r : RuleSet). Legal r now.history) rules legal)) count refl is;
       stands = subst (λ (w : World). StandsOn w (may_leave now.rig)) (sym is)
           (up_stands (world old.rules history next clock false None) (may_leave now.rig) refl refl at.1);
     }
@@ -71,15 +71,15 @@ came may_leave faults schema pick old now clock e seen it down beside rules up a
 
 by_beside : {G R : Type 0} → (may_leave : R → Areas → Type 0) (faults : R → ℕ) (schema : Schema) (pick : ℕ) (old now : Booked G R) (clock : ℕ) (e : Payloads) (seen : Areas)
     (beside : Option Interrupted) → old.beside ≡ beside →
-    ((it : Interrupted) → beside ≡ Some it → old.down ≡ true) → now.rules ≡ old.rules → now.down ≡ false → now.beside ≡ None →
+    ((it : Interrupted) → beside ≡ Some it → old.down ≡ true) → Legal now.rules now.history → now.rules ≡ old.rules → now.down ≡ false → now.beside ≡ None →
     faults now.rig ≡ faults old.rig → Found may_leave old.rules seen now → StandsBeside old.rules old.history e beside seen →
     Carried may_leave faults schema (Crash pick) (world_of old clock e) (faults old.rig) now clock (opened_text (length now.history))
-by_beside may_leave faults schema pick old now clock e seen None is down rules up alone count found stands =
+by_beside may_leave faults schema pick old now clock e seen None is down legal rules up alone count found stands =
     kept may_leave faults schema pick old now clock e seen rules up alone count found stands
-by_beside may_leave faults schema pick old now clock e seen (Some it) is down rules up alone count found (inl stands) =
+by_beside may_leave faults schema pick old now clock e seen (Some it) is down legal rules up alone count found (inl stands) =
     kept may_leave faults schema pick old now clock e seen rules up alone count found stands
-by_beside may_leave faults schema pick old now clock e seen (Some it) is down rules up alone count found (inr stands) =
-    came may_leave faults schema pick old now clock e seen it (down it refl) is rules up alone count found stands
+by_beside may_leave faults schema pick old now clock e seen (Some it) is down legal rules up alone count found (inr stands) =
+    came may_leave faults schema pick old now clock e seen it (down it refl) is legal rules up alone count found stands
 
 -- a world that is up has nothing beside it
 down_beside : {G R : Type 0} → (images : Areas → Type 0) (old : Booked G R) (clock : ℕ) (e : Payloads) (down : Bool) → old.down ≡ down →
@@ -88,13 +88,13 @@ down_beside images old clock e true is stands it beside = is
 down_beside images old clock e false is stands it beside = absurd (cc (stands.alone is, beside))
 
 pub crash_carries : {G R : Type 0} → (may_leave : R → Areas → Type 0) (faults : R → ℕ) (schema : Schema) (pick : ℕ) (old now : Booked G R) (clock : ℕ) (e : Payloads)
-    (seen : Areas) → Legal old.rules old.history → now.rules ≡ old.rules → now.down ≡ false →
+    (seen : Areas) → Legal old.rules old.history → Legal now.rules now.history → now.rules ≡ old.rules → now.down ≡ false →
     now.beside ≡ None → faults now.rig ≡ faults old.rig → may_leave old.rig seen → Found may_leave old.rules seen now →
     StandsOn (world_of old clock e) (may_leave old.rig) →
     Carried may_leave faults schema (Crash pick) (world_of old clock e) (faults old.rig) now clock (opened_text (length now.history))
-crash_carries may_leave faults schema pick old now clock e seen legal rules up alone count image found stands =
+crash_carries may_leave faults schema pick old now clock e seen legal legal_now rules up alone count image found stands =
     by_beside may_leave faults schema pick old now clock e seen old.beside refl (down_beside (may_leave old.rig) old clock e old.down refl stands)
-    rules up alone count found (stands_held (world_of old clock e) (may_leave old.rig) legal stands seen image)
+    legal_now rules up alone count found (stands_held (world_of old clock e) (may_leave old.rig) legal stands seen image)
 
 -- an opening that failed
 
@@ -136,13 +136,13 @@ starved_crash {G} {R} may_leave pick old rig clock e legal same stands = record 
 }
 
 pub crash_opened : {G R : Type 0} → (seen : R → Areas) (may_leave : R → Areas → Type 0) (faults : R → ℕ) (schema : Schema) (pick : ℕ) (old now : Booked G R) (rig cut : R)
-    (rules : RuleSet) (clock next : ℕ) (e : Payloads) → rig ≡ old.rig → rules ≡ old.rules → next ≡ clock → Legal old.rules old.history →
+    (rules : RuleSet) (clock next : ℕ) (e : Payloads) → rig ≡ old.rig → rules ≡ old.rules → next ≡ clock → Legal old.rules old.history → Legal now.rules now.history →
     now.rules ≡ rules → now.down ≡ false → now.beside ≡ None → faults now.rig ≡ faults cut → faults cut ≡ faults rig →
     may_leave rig (seen cut) → Found may_leave rules (seen cut) now → StandsOn (world_of old clock e) (may_leave old.rig) →
     Carried may_leave faults schema (Crash pick) (world_of old clock e) (faults old.rig) now next (opened_text (length now.history))
-crash_opened {G} {R} seen may_leave faults schema pick old now rig cut rules clock next e rig_is rules_are clock_is legal now_rules up alone count cut_count image found stands =
+crash_opened {G} {R} seen may_leave faults schema pick old now rig cut rules clock next e rig_is rules_are clock_is legal legal_now now_rules up alone count cut_count image found stands =
     subst (λ (n : ℕ). Carried may_leave faults schema (Crash pick) (world_of old clock e) (faults old.rig) now n (opened_text (length now.history))) (sym clock_is)
-    (crash_carries may_leave faults schema pick old now clock e (seen cut) legal (now_rules ∙ rules_are) up alone
+    (crash_carries may_leave faults schema pick old now clock e (seen cut) legal legal_now (now_rules ∙ rules_are) up alone
     (count ∙ cut_count ∙ ap faults rig_is) (subst (λ (r : R). may_leave r (seen cut)) rig_is image)
     (subst (λ (x : RuleSet). Found may_leave x (seen cut) now) rules_are found) stands)
 
@@ -189,7 +189,7 @@ beside_came rules history e beside it c is stands = subst (λ (b : Option Interr
 crash_held : (w : World) (before now : ℕ) (text : List ℕ) (next : World) (images : Areas → Type 0) → serial.Crashes w before now text next → IsHeld next images → IsHeld w images
 crash_held w before now text next images (serial.Crashes.Keeps count said is) held = λ c image.
     beside_kept w.rules w.history w.payloads w.beside c (subst (λ (v : World). IsHeld v images) is held c image)
-crash_held w before now text next images (serial.Crashes.Enters it down beside count said is) held = λ c image.
+crash_held w before now text next images (serial.Crashes.Enters it down beside legal count said is) held = λ c image.
     beside_came w.rules w.history w.payloads w.beside it c beside (subst (λ (v : World). IsHeld v images) is held c image)
 
 pub crash_halts : {G R : Type 0} → (may_leave : R → Areas → Type 0) (faults : R → ℕ) (schema : Schema) (pick before : ℕ) (w : World) (now : Booked G R) (clock : ℕ) (text : List ℕ) →

@@ -13,11 +13,11 @@ use Rattle.store_laws.specs.Moves.{RestIn}
 use Rattle.delf_book.specs.Books.{Booked}
 use Rattle.delf_recovery.specs.declared.fault.OpenFault.{OpenFault}
 use Rattle.delf_recovery.specs.declared.fault.OpenFault.TheVariants as fault
-use Rattle.delf_recovery.specs.Opening.{StandsNow, IsNotBad, IsBadAt}
+use Rattle.delf_recovery.specs.Opening.{StandsNow, IsNotBad, IsBadAt, StaysAsRead}
 use Rattle.script_runner.specs.declared.status.Status.{Status}
 use Rattle.script_runner.specs.declared.status.Status.TheVariants.{Done, Usage, BadDocument, ReadFault, WriteFault, OutOfMemory, Down, BadStore}
 use Rattle.script_runner.specs.Endings.{UnopenedText, UnopenedCause}
-use Rattle.script_runner.specs.Openings.{CountsOpen, StopCounts}
+use Rattle.script_runner.specs.Openings.{CountsOpen, LeavesBad, StopCounts}
 use Rattle.script_runner.specs.Orders.{GivesAll}
 use Rattle.script_runner.specs.Outcomes.{ScriptCause, OpenedText, RunsFrom, StillStands, IsBad, OrdersMade, IsMade}
 use Rattle.script_runner.specs.Worlds.{World, StandsOn, Opens, world_of}
@@ -74,31 +74,38 @@ counts_stop before now fault.DiskFault counts = record { later = counts.0; faile
 counts_stop before now fault.OutOfMemory counts = record { later = omega (arith, counts); failed = λ is. absurd (cc is) }
 counts_stop before now (fault.BadStore area at) counts = record { later = omega (arith, counts); failed = λ is. absurd (cc is) }
 
-pub bad_is : (rules : RuleSet) (seen : Areas) (it : OpenFault) (area : Area) (at : ℕ) → it ≡ fault.BadStore area at → IsBadAt rules seen it →
-    ((history : List Entry) (e : Payloads) → StandBut rules history e seen → IsNotBad it) → IsBad rules seen area at
-bad_is rules seen it area at is bad never = record {
+pub leaves_bad : {R : Type 0} → (rules : RuleSet) (seen : Areas) (may_leave : R → Areas → Type 0) (rig : R) (it : OpenFault) → StaysAsRead rules seen may_leave rig it →
+    LeavesBad rules seen (may_leave rig) it
+leaves_bad rules seen may_leave rig fault.DiskFault stays = tt
+leaves_bad rules seen may_leave rig fault.OutOfMemory stays = tt
+leaves_bad rules seen may_leave rig (fault.BadStore area at) stays = stays
+
+pub bad_is : (rules : RuleSet) (seen : Areas) (images : Areas → Type 0) (it : OpenFault) (area : Area) (at : ℕ) → it ≡ fault.BadStore area at → IsBadAt rules seen it →
+    ((history : List Entry) (e : Payloads) → StandBut rules history e seen → IsNotBad it) → LeavesBad rules seen images it → IsBad rules seen images area at
+bad_is rules seen images it area at is bad never leaves = record {
   place = subst (IsBadAt rules seen) is bad;
   stands_not = subst (λ (f : OpenFault). (history : List Entry) (e : Payloads) → StandBut rules history e seen → IsNotBad f) is never;
+  stays = subst (LeavesBad rules seen images) is leaves;
 }
 
 pub unopened_text : (rules : RuleSet) (moment : ℕ) (seen : Areas) (old : Areas → Type 0) (start now : ℕ) (images : Areas → Type 0) (before after : List ℕ) (runs : World → Status → Type 0) (it : OpenFault)
     (write_rose : Type 0) (status : Status) → StopCounts start now it → StillStands rules seen old images → IsBadAt rules seen it →
-    ((history : List Entry) (e : Payloads) → StandBut rules history e seen → IsNotBad it) → UnopenedText it before after status →
+    ((history : List Entry) (e : Payloads) → StandBut rules history e seen → IsNotBad it) → LeavesBad rules seen images it → UnopenedText it before after status →
     UnopenedCause it 0 write_rose status → OpenedText rules moment seen old start now images before after runs status
-unopened_text rules moment seen old start now images before after runs it write_rose Done counts still bad never text cause = absurd text
-unopened_text rules moment seen old start now images before after runs it write_rose Usage counts still bad never text cause = absurd text
-unopened_text rules moment seen old start now images before after runs it write_rose (BadDocument line) counts still bad never text cause = absurd text
-unopened_text rules moment seen old start now images before after runs it write_rose ReadFault counts still bad never text cause = absurd text
-unopened_text rules moment seen old start now images before after runs fault.DiskFault write_rose (WriteFault done) counts still bad never text cause =
+unopened_text rules moment seen old start now images before after runs it write_rose Done counts still bad never leaves text cause = absurd text
+unopened_text rules moment seen old start now images before after runs it write_rose Usage counts still bad never leaves text cause = absurd text
+unopened_text rules moment seen old start now images before after runs it write_rose (BadDocument line) counts still bad never leaves text cause = absurd text
+unopened_text rules moment seen old start now images before after runs it write_rose ReadFault counts still bad never leaves text cause = absurd text
+unopened_text rules moment seen old start now images before after runs fault.DiskFault write_rose (WriteFault done) counts still bad never leaves text cause =
     inl (cause.0, inl (text, counts.failed refl, still))
-unopened_text rules moment seen old start now images before after runs fault.OutOfMemory write_rose (WriteFault done) counts still bad never text cause = absurd (cause.2 refl)
-unopened_text rules moment seen old start now images before after runs (fault.BadStore area at) write_rose (WriteFault done) counts still bad never text cause =
-    inl (cause.0, inr (area, (at, (bad_is rules seen (fault.BadStore area at) area at refl bad never, text))))
-unopened_text rules moment seen old start now images before after runs it write_rose (OutOfMemory done) counts still bad never text cause = inl (cause, text, still)
-unopened_text rules moment seen old start now images before after runs it write_rose (Down len) counts still bad never text cause =
+unopened_text rules moment seen old start now images before after runs fault.OutOfMemory write_rose (WriteFault done) counts still bad never leaves text cause = absurd (cause.2 refl)
+unopened_text rules moment seen old start now images before after runs (fault.BadStore area at) write_rose (WriteFault done) counts still bad never leaves text cause =
+    inl (cause.0, inr (area, (at, (bad_is rules seen images (fault.BadStore area at) area at refl bad never leaves, text))))
+unopened_text rules moment seen old start now images before after runs it write_rose (OutOfMemory done) counts still bad never leaves text cause = inl (cause, text, still)
+unopened_text rules moment seen old start now images before after runs it write_rose (Down len) counts still bad never leaves text cause =
     inl (cause.1, counts.failed cause.0, text, still)
-unopened_text rules moment seen old start now images before after runs it write_rose (BadStore area at) counts still bad never text cause =
-    (bad_is rules seen it area at cause bad never, text)
+unopened_text rules moment seen old start now images before after runs it write_rose (BadStore area at) counts still bad never leaves text cause =
+    (bad_is rules seen images it area at cause bad never leaves, text)
 
 no_order_made : (it : OpenFault) (all : ℕ) (write_rose : Type 0) (status : Status) → UnopenedCause it 0 write_rose status → IsMade status 0 all
 no_order_made it all write_rose Done cause = absurd cause

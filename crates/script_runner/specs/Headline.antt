@@ -87,7 +87,7 @@ pub data Headline (o : Outside) (status : Status) : Type 0 where
   -- 4: in the line of a first opening that met a disk fault, or found no store
   OpeningCut : (document : Document) → status ≡ WriteFault 0 → IsMadeOf o document → IsCut o.before o.after (down_text 0) → Rose o.start o.now →
       StillStands document.rules o.seen o.old_images o.images → Headline o status
-  BadCut : (document : Document) (area : Area) (at : ℕ) → status ≡ WriteFault 0 → IsMadeOf o document → IsBad document.rules o.seen area at →
+  BadCut : (document : Document) (area : Area) (at : ℕ) → status ≡ WriteFault 0 → IsMadeOf o document → IsBad document.rules o.seen o.images area at →
       IsCut o.before o.after (bad_text area at) → Headline o status
   -- 4: in the lines of a command, or of an opening or the last settling that met a disk fault
   ScriptCut : (document : Document) (first : World) (done : ℕ) → status ≡ WriteFault done → Begins o document first →
@@ -117,6 +117,6 @@ pub data Headline (o : Outside) (status : Status) : Type 0 where
       IsDown document.schema first document.commands o.start o.now o.images o.before o.after len → Headline o status
   LoadDown : (n : ℕ) (document : Document) (first : World) (loads : Loads o n document first) → status ≡ Down (length loads.ran.last.history) →
       StopsDown loads.ran.last loads.ran.now o.now o.images → o.after ≡ o.before ++ down_text (length loads.ran.last.history) → Headline o status
-  -- 7: the first opening found no store
-  NoStore : (document : Document) (area : Area) (at : ℕ) → status ≡ BadStore area at → IsMadeOf o document → IsBad document.rules o.seen area at →
+  -- 7: the first opening found no store, and leaves it as bad, with its longer areas as they were
+  NoStore : (document : Document) (area : Area) (at : ℕ) → status ≡ BadStore area at → IsMadeOf o document → IsBad document.rules o.seen o.images area at →
       o.after ≡ o.before ++ bad_text area at → Headline o status

@@ -6,9 +6,11 @@ use Rattle.delf_disk.specs.Causes.{Rose}
 use Rattle.delf_model.specs.declared.script.Command.{Command}
 use Rattle.delf_model.specs.declared.script.Command.TheVariants.{Crash}
 use Rattle.delf_model.specs.Payloads.{Payloads}
+use Rattle.delf_model.specs.RuleSet.{RuleSet}
 use Rattle.delf_book.specs.Books.{Booked}
 use Rattle.delf_recovery.specs.declared.fault.OpenFault.{OpenFault}
 use Rattle.delf_recovery.specs.declared.fault.OpenFault.TheVariants.{DiskFault, OutOfMemory, BadStore}
+use Rattle.delf_recovery.specs.Opening.{StaysBad}
 use Rattle.script_runner.specs.Orders.{Gives}
 use Rattle.script_runner.specs.Standing.{Halted}
 use Rattle.script_runner.specs.Worlds.{StandsOn, IsHeld, world_of}
@@ -18,6 +20,12 @@ abbrev pub CountsOpen : ℕ → ℕ → OpenFault → Type 0
 CountsOpen before now DiskFault = (before ≤ now) × Rose before now
 CountsOpen before now OutOfMemory = now ≡ before
 CountsOpen before now (BadStore area at) = now ≡ before
+
+-- where a place is told, whatever a crash leaves is bad at it, with each area of more than nine bytes as it was
+abbrev pub LeavesBad : RuleSet → Areas → (Areas → Type 0) → OpenFault → Type 0
+LeavesBad rules seen images DiskFault = Unit {0}
+LeavesBad rules seen images OutOfMemory = Unit {0}
+LeavesBad rules seen images (BadStore area at) = (c : Areas) → images c → StaysBad rules area at seen c
 
 -- a command that was not made: the count never falls, and rose where the disk failed
 pub record StopCounts (before now : ℕ) (it : OpenFault) : Type 0 where

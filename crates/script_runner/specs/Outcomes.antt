@@ -17,6 +17,7 @@ use Rattle.delf_model.specs.Sound.{Sound}
 use Rattle.store_laws.specs.Stores.{StandBut, Settled}
 use Rattle.store_laws.specs.Moves.{RestIn}
 use Rattle.opening_laws.specs.Places.{BadPlace}
+use Rattle.delf_recovery.specs.Opening.{StaysBad}
 use Rattle.job_report.specs.Texts.{down_text, bad_journal_text, bad_vault_text}
 use Rattle.script_runner.specs.declared.status.Status.{Status}
 use Rattle.script_runner.specs.declared.status.Status.TheVariants.{Done, Usage, BadDocument, ReadFault, WriteFault, OutOfMemory, Down, BadStore}
@@ -111,20 +112,22 @@ ScriptText schema first commands start now images before after (OutOfMemory done
 ScriptText schema first commands start now images before after (Down len) = IsDown schema first commands start now images before after len
 ScriptText schema first commands start now images before after (BadStore area at) = ⊥
 
--- Why the first opening found no store: a place is bad. Nothing that the areas may stand for has one.
-pub record IsBad (rules : RuleSet) (seen : Areas) (area : Area) (at : ℕ) : Type 0 where
+-- Why the first opening found no store: a place is bad. Nothing that the areas may stand for has one. Whatever a crash leaves is
+-- bad at the same place, with each area of more than nine bytes as it was.
+pub record IsBad (rules : RuleSet) (seen : Areas) (images : Areas → Type 0) (area : Area) (at : ℕ) : Type 0 where
   pub place : BadPlace rules seen area at
   pub stands_not : (history : List Entry) (e : Payloads) → StandBut rules history e seen → ⊥
+  pub stays : (c : Areas) → images c → StaysBad rules area at seen c
 
 abbrev pub bad_text : Area → ℕ → List ℕ
 bad_text Journal at = bad_journal_text at
 bad_text Vault at = bad_vault_text at
 
--- after a first opening that failed the disk stands for what read at the start
-abbrev pub StillStands : RuleSet → Areas → (Areas → Type 0) → (Areas → Type 0) → Type 0
-StillStands rules seen first images =
-    (history : List Entry) (e : Payloads) → StandBut rules history e seen → (c : Areas) → images c →
-    first c ⊎ StandBut rules history e c
+-- after a first opening that failed the disk stands for what read at the start, or is as bad as that was
+pub record StillStands (rules : RuleSet) (seen : Areas) (first images : Areas → Type 0) : Type 0 where
+  pub stands : (history : List Entry) (e : Payloads) → StandBut rules history e seen → (c : Areas) → images c →
+      first c ⊎ StandBut rules history e c
+  pub bad : (area : Area) (at : ℕ) → BadPlace rules seen area at → (c : Areas) → images c → first c ⊎ StaysBad rules area at seen c
 
 -- the opening found a world, of which this holds
 pub record RunsFrom (rules : RuleSet) (moment : ℕ) (seen : Areas) (runs : World → Type 0) : Type 0 where
@@ -136,7 +139,7 @@ pub record RunsFrom (rules : RuleSet) (moment : ℕ) (seen : Areas) (runs : Worl
 abbrev pub CutsOpening : RuleSet → Areas → (Areas → Type 0) → ℕ → ℕ → (Areas → Type 0) → List ℕ → List ℕ → Type 0
 CutsOpening rules seen first start now images before after =
     (IsCut before after (down_text 0) × Rose start now × StillStands rules seen first images)
-    ⊎ ((area : Area) × ((at : ℕ) × (IsBad rules seen area at × IsCut before after (bad_text area at))))
+    ⊎ ((area : Area) × ((at : ℕ) × (IsBad rules seen images area at × IsCut before after (bad_text area at))))
 
 -- sink and disk after a store was to be opened, by the bytes that read and the images at the start, the counts of faults, and
 -- the images at the end; `runs` is said of the world that was found
@@ -151,7 +154,7 @@ OpenedText rules moment seen first start now images before after runs (Down len)
     ((len ≡ 0) × Rose start now × (after ≡ before ++ down_text 0) × StillStands rules seen first images)
     ⊎ RunsFrom rules moment seen (λ w. runs w (Down len))
 OpenedText rules moment seen first start now images before after runs (BadStore area at) =
-    IsBad rules seen area at × (after ≡ before ++ bad_text area at)
+    IsBad rules seen images area at × (after ≡ before ++ bad_text area at)
 OpenedText rules moment seen first start now images before after runs status = RunsFrom rules moment seen (λ w. runs w status)
 
 -- sink and disk after a document was accepted

@@ -17,6 +17,7 @@ use Rattle.delf_model.specs.declared.script.Command.{Command}
 use Rattle.delf_model.specs.declared.script.Command.TheVariants.{Submit, Work, Tick, Get, Show, Job, Jobs, Report, Fail, Crash, Par}
 use Rattle.delf_model.specs.declared.script.Lane.{Lane}
 use Rattle.delf_model.specs.Graph.{object_at}
+use Rattle.delf_model.specs.Legal.{Legal}
 use Rattle.delf_model.specs.State.{State, JobRow, owner, find_job, job_row}
 use Rattle.delf_model.specs.Owners.{unlink_start}
 use Rattle.delf_model.specs.Reply.{reply}
@@ -180,10 +181,11 @@ pub record Goes (said : List ℕ) (to : World) (before now : ℕ) (text : List �
   pub next_is : next ≡ to
 
 -- a cut of the power and an opening that was not refused: the history is the kept one, or of a world that was down that with
--- the entry beside it
+-- the entry beside it, which is then legal
 pub data Crashes (w : World) (before now : ℕ) (text : List ℕ) (next : World) : Type 0 where
   Keeps : now ≡ before → text ≡ opened_text (length next.history) → next ≡ mended w → Crashes w before now text next
-  Enters : (it : Interrupted) → w.down ≡ true → w.beside ≡ Some it → now ≡ before → text ≡ opened_text (length next.history) → next ≡ entered w it →
+  Enters : (it : Interrupted) → w.down ≡ true → w.beside ≡ Some it → Legal w.rules (w.history ++ it.entry ∷ []) → now ≡ before →
+      text ≡ opened_text (length next.history) → next ≡ entered w it →
       Crashes w before now text next
 
 -- a block of lanes

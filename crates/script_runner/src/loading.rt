@@ -48,7 +48,7 @@ pub(crate) fn run_load<K: Sink, R: Rig, C: Clock, B: Blocks<Store<R>, Outs>>(
     requires below { n ≤ 20000 }
     requires ready { IsRunner B.served R.Disk (λ store. store.book) (λ store. store.clock) (λ v. v.items) (B.may blocks.now) (B.ran blocks.now) }
     ensures cause { LoadCause (Rose (K.faults sink.old) (K.faults sink.new)) (DiskRose (R.Disk.faults rig) (R.Disk.faults result.1))
-        (λ area at. OfLoad B.served n (λ document. Plain (R.Disk.told rig) (R.Disk.honest rig) → IsBad document.rules (R.Disk.seen rig) area at)) result.0 }
+        (λ area at. OfLoad B.served n (λ document. Plain (R.Disk.told rig) (R.Disk.honest rig) → IsBad document.rules (R.Disk.seen rig) (R.Disk.may_leave result.1) area at)) result.0 }
     ensures text { IsTrue (K.told sink.old) → LoadedText B.served n (result.1 ≡ rig) (λ document status. Plain (R.Disk.told rig) (R.Disk.honest rig)
         → LoadText n document (C.last_answer clock.new) (R.Disk.seen rig) (R.Disk.may_leave rig)
         (R.Disk.faults rig) (R.Disk.faults result.1) (R.Disk.may_leave result.1) (K.held sink.old) (K.held sink.new) status)
@@ -82,7 +82,7 @@ fn load_into<K: Sink, R: Rig, B: Blocks<Store<R>, Outs>>(
     requires lanes { B.served ≡ false → All HasNoLanes document.commands }
     requires ready { IsRunner B.served R.Disk (λ store. store.book) (λ store. store.clock) (λ v. v.items) (B.may blocks.now) (B.ran blocks.now) }
     ensures cause { LoadCause (Rose (K.faults sink.old) (K.faults sink.new)) (DiskRose (R.Disk.faults rig) (R.Disk.faults result.1))
-        (λ area at. Plain (R.Disk.told rig) (R.Disk.honest rig) → IsBad document.rules (R.Disk.seen rig) area at) result.0 }
+        (λ area at. Plain (R.Disk.told rig) (R.Disk.honest rig) → IsBad document.rules (R.Disk.seen rig) (R.Disk.may_leave result.1) area at) result.0 }
     ensures text { IsTrue (K.told sink.old) → Plain (R.Disk.told rig) (R.Disk.honest rig) → LoadText n document moment (R.Disk.seen rig) (R.Disk.may_leave rig)
         (R.Disk.faults rig) (R.Disk.faults result.1) (R.Disk.may_leave result.1) (K.held sink.old) (K.held sink.new) result.0 }
     ensures same_sink { K.told sink.new ≡ K.told sink.old }

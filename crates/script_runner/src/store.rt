@@ -1,5 +1,6 @@
 //! A store: what a script runs against.
-ghost use Rattle.std.specs.Prelude.{◌≡◌, ◌+◌, ◌⊎◌, min, false, None, IfOk, IfErr, List, length, []};
+ghost use Rattle.std.specs.Prelude.{◌≡◌, ◌+◌, ◌⊎◌, ℕ, min, false, None, IfOk, IfErr, List, length, []};
+ghost use Rattle.delf_disk.specs.declared.area.Area.{Area as AnArea};
 ghost use Rattle.delf_disk.specs.Areas.{Areas};
 ghost use Rattle.delf_disk.specs.Plain.{Plain, SameKind, SameTelling};
 ghost use Rattle.delf_model.specs.declared.entry.Entry.{Entry};
@@ -7,11 +8,13 @@ ghost use Rattle.delf_model.specs.declared.script.Command.TheVariants.{Crash};
 ghost use Rattle.delf_model.specs.Checked.{IsSpellable, numbered};
 ghost use Rattle.job_report.specs.Texts.{opened_text};
 ghost use Rattle.delf_model.specs.Room.{greatest_moment};
+ghost use Rattle.delf_model.specs.Legal.{Legal};
 ghost use Rattle.delf_model.specs.Payloads.{Payloads};
 ghost use Rattle.store_laws.specs.Stores.{StandBut};
 ghost use Rattle.store_laws.specs.Moves.{RestIn};
-ghost use Rattle.delf_recovery.specs.Opening.{StandsNow, IsNotBad, IsBadAt};
-ghost use Rattle.script_runner.specs.Openings.{CountsOpen, MayGive, Stops};
+ghost use Rattle.delf_recovery.specs.Opening.{StandsNow, StaysBad, IsNotBad, IsBadAt};
+ghost use Rattle.opening_laws.specs.Places.{BadPlace};
+ghost use Rattle.script_runner.specs.Openings.{CountsOpen, LeavesBad, MayGive, Stops};
 ghost use Rattle.script_runner.specs.Orders.{Gives};
 ghost use Rattle.script_runner.specs.Standing.{Carries};
 
@@ -40,6 +43,7 @@ impl<R: Rig> Store<R> {
         ensures up { IfOk result (λ store. store.book.down ≡ false) }
         ensures beside { IfOk result (λ store. store.book.beside ≡ None) }
         ensures unclaimed { IfOk result (λ store. store.book.held ≡ []) }
+        ensures legal { IfOk result (λ store. Legal store.book.rules store.book.history) }
         ensures found { IfOk result (λ store. Plain (R.Disk.told rig) (R.Disk.honest rig)
             → StandsNow rules store.book.history (R.Disk.seen rig)) }
         ensures opened { IfOk result (λ store. Plain (R.Disk.told rig) (R.Disk.honest rig) → (history : List Entry) (e : Payloads)
@@ -51,6 +55,11 @@ impl<R: Rig> Store<R> {
         ensures held { IfErr result (λ it. Plain (R.Disk.told rig) (R.Disk.honest rig) → (history : List Entry) (e : Payloads)
             → StandBut rules history e (R.Disk.seen rig) → (c : Areas) → R.Disk.may_leave it.1 c
             → R.Disk.may_leave rig c ⊎ StandBut rules history e c) }
+        ensures held_bad { IfErr result (λ it. Plain (R.Disk.told rig) (R.Disk.honest rig) → (area : AnArea) (at : ℕ)
+            → BadPlace rules (R.Disk.seen rig) area at → (c : Areas) → R.Disk.may_leave it.1 c
+            → R.Disk.may_leave rig c ⊎ StaysBad rules area at (R.Disk.seen rig) c) }
+        ensures leaves { IfErr result (λ it. Plain (R.Disk.told rig) (R.Disk.honest rig)
+            → LeavesBad rules (R.Disk.seen rig) (R.Disk.may_leave it.1) it.0) }
         ensures ok_kind { IfOk result (λ store. SameKind R.Disk.told R.Disk.honest R.Disk.order R.Disk.orders rig store.book.rig) }
         ensures err_kind { IfErr result (λ it. SameKind R.Disk.told R.Disk.honest R.Disk.order R.Disk.orders rig it.1) }
         ensures ok_count { IfOk result (λ store. R.Disk.faults store.book.rig ≡ R.Disk.faults rig) }

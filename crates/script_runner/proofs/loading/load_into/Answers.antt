@@ -39,7 +39,7 @@ returns-clause-cause g c =
     let at = c.in-Err.ensures in
     load_unopened c.in-Err.fault (g.R.Disk.faults c.args.rig) (g.R.Disk.faults c.args.rig) (g.R.Disk.faults c.in-Err.rig) _ _ c.put_unopened.result (omega arith)
     (counts_stop (g.R.Disk.faults c.args.rig) (g.R.Disk.faults c.in-Err.rig) c.in-Err.fault at.err_count)
-    (λ area place is plain. bad_is c.args.document.rules (g.R.Disk.seen c.args.rig) c.in-Err.fault area place is (at.bad plain) (at.never plain)) c.put_unopened.ensures.cause
+    (λ area place is plain. bad_is c.args.document.rules (g.R.Disk.seen c.args.rig) (g.R.Disk.may_leave c.in-Err.rig) c.in-Err.fault area place is (at.bad plain) (at.never plain) (at.leaves plain)) c.put_unopened.ensures.cause
 
 pub returns-clause-text : goal.returns-clause-text
 returns-clause-text g c = λ tell plain.
@@ -48,4 +48,4 @@ returns-clause-text g c = λ tell plain.
     (g.R.Disk.may_leave c.in-Err.rig) _ _
     (λ w it. LoadScriptText c.args.n c.args.document.schema w c.args.document.commands (g.R.Disk.faults c.args.rig) (g.R.Disk.faults c.in-Err.rig) (g.R.Disk.may_leave c.in-Err.rig) (g.K.Sink.held c.args.sink.now) (g.K.Sink.held c.put_unopened.new.sink) it)
     c.in-Err.fault _ c.put_unopened.result (counts_stop (g.R.Disk.faults c.args.rig) (g.R.Disk.faults c.in-Err.rig) c.in-Err.fault at.err_count)
-    (at.held plain) (at.bad plain) (at.never plain) (c.put_unopened.ensures.text tell) c.put_unopened.ensures.cause
+    (record { stands = at.held plain; bad = at.held_bad plain }) (at.bad plain) (at.never plain) (at.leaves plain) (c.put_unopened.ensures.text tell) c.put_unopened.ensures.cause

@@ -21,9 +21,9 @@ returns-in-Some-Run-clause-complete g c = λ quiet.
     let read_rose = Rose (g.S.Source.faults c.args.source.now) (g.S.Source.faults c.run_source.new.source) in
     let write_rose = Rose (g.K.Sink.faults c.args.sink.now) (g.K.Sink.faults c.run_source.new.sink) in
     let rig_rose = DiskRose (g.R.Disk.faults c.args.rig) (g.R.Disk.faults c.run_source.result.1) in
-    ends_well g.B.Blocks.served (Plain (g.R.Disk.told c.args.rig) (g.R.Disk.honest c.args.rig)) (g.R.Disk.seen c.args.rig) told left read_rose write_rose rig_rose quiet asked c.run_source.result.0
+    ends_well g.B.Blocks.served (Plain (g.R.Disk.told c.args.rig) (g.R.Disk.honest c.args.rig)) (g.R.Disk.seen c.args.rig) (g.R.Disk.may_leave c.run_source.result.1) told left read_rose write_rose rig_rose quiet asked c.run_source.result.0
     (subst (λ (r : Option Request). RunCause g.B.Blocks.served r told left read_rose write_rose rig_rose
-    (λ rules area at. Plain (g.R.Disk.told c.args.rig) (g.R.Disk.honest c.args.rig) → IsBad rules (g.R.Disk.seen c.args.rig) area at) c.run_source.result.0) is c.run_source.ensures.cause)
+    (λ rules area at. Plain (g.R.Disk.told c.args.rig) (g.R.Disk.honest c.args.rig) → IsBad rules (g.R.Disk.seen c.args.rig) (g.R.Disk.may_leave c.run_source.result.1) area at) c.run_source.result.0) is c.run_source.ensures.cause)
 
 pub returns-in-Some-Check-clause-complete : goal.returns-in-Some-Check-clause-complete
 returns-in-Some-Check-clause-complete g c = λ quiet.
@@ -34,9 +34,9 @@ returns-in-Some-Check-clause-complete g c = λ quiet.
     let read_rose = Rose (g.S.Source.faults c.args.source.now) (g.S.Source.faults c.check_source.new.source) in
     let write_rose = Rose (g.K.Sink.faults c.args.sink.now) (g.K.Sink.faults c.check_source.new.sink) in
     let rig_rose = DiskRose (g.R.Disk.faults c.args.rig) (g.R.Disk.faults c.args.rig) in
-    ends_well g.B.Blocks.served (Plain (g.R.Disk.told c.args.rig) (g.R.Disk.honest c.args.rig)) (g.R.Disk.seen c.args.rig) told left read_rose write_rose rig_rose quiet asked c.check_source.result
+    ends_well g.B.Blocks.served (Plain (g.R.Disk.told c.args.rig) (g.R.Disk.honest c.args.rig)) (g.R.Disk.seen c.args.rig) (g.R.Disk.may_leave c.args.rig) told left read_rose write_rose rig_rose quiet asked c.check_source.result
     (subst (λ (r : Option Request). RunCause g.B.Blocks.served r told left read_rose write_rose rig_rose
-    (λ rules area at. Plain (g.R.Disk.told c.args.rig) (g.R.Disk.honest c.args.rig) → IsBad rules (g.R.Disk.seen c.args.rig) area at) c.check_source.result) is
+    (λ rules area at. Plain (g.R.Disk.told c.args.rig) (g.R.Disk.honest c.args.rig) → IsBad rules (g.R.Disk.seen c.args.rig) (g.R.Disk.may_leave c.args.rig) area at) c.check_source.result) is
     (subst (λ (b : Bool). CheckCause b told left read_rose write_rose c.check_source.result) c.are_served.ensures c.check_source.ensures.cause))
 
 pub returns-in-Some-Load-clause-complete : goal.returns-in-Some-Load-clause-complete
@@ -48,9 +48,9 @@ returns-in-Some-Load-clause-complete g c = λ quiet.
     let read_rose = Rose (g.S.Source.faults c.args.source.now) (g.S.Source.faults c.args.source.now) in
     let write_rose = Rose (g.K.Sink.faults c.args.sink.now) (g.K.Sink.faults c.run_load.new.sink) in
     let rig_rose = DiskRose (g.R.Disk.faults c.args.rig) (g.R.Disk.faults c.run_load.result.1) in
-    ends_well g.B.Blocks.served (Plain (g.R.Disk.told c.args.rig) (g.R.Disk.honest c.args.rig)) (g.R.Disk.seen c.args.rig) told left read_rose write_rose rig_rose quiet asked c.run_load.result.0
+    ends_well g.B.Blocks.served (Plain (g.R.Disk.told c.args.rig) (g.R.Disk.honest c.args.rig)) (g.R.Disk.seen c.args.rig) (g.R.Disk.may_leave c.run_load.result.1) told left read_rose write_rose rig_rose quiet asked c.run_load.result.0
     (subst (λ (r : Option Request). RunCause g.B.Blocks.served r told left read_rose write_rose rig_rose
-    (λ rules area at. Plain (g.R.Disk.told c.args.rig) (g.R.Disk.honest c.args.rig) → IsBad rules (g.R.Disk.seen c.args.rig) area at) c.run_load.result.0) is c.run_load.ensures.cause)
+    (λ rules area at. Plain (g.R.Disk.told c.args.rig) (g.R.Disk.honest c.args.rig) → IsBad rules (g.R.Disk.seen c.args.rig) (g.R.Disk.may_leave c.run_load.result.1) area at) c.run_load.result.0) is c.run_load.ensures.cause)
 
 pub returns-in-Some-Run-clause-headline : goal.returns-in-Some-Run-clause-headline
 returns-in-Some-Run-clause-headline g c = λ told sunk plain.

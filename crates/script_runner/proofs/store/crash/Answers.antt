@@ -16,7 +16,7 @@ returns-clause-serves g c = if_ok _ c.open.result (λ next is plain e stands.
     let there = plain_then (g.R.Disk.told rig) (g.R.Disk.honest rig) (g.R.Disk.told cut) (g.R.Disk.honest cut) c.cut_power.ensures.telling.tells c.cut_power.ensures.telling.keeps_word here in
     crash_opened g.R.Disk.seen g.R.Disk.may_leave g.R.Disk.faults c.args.schema.now c.args.pick c.args.store.book next.book rig cut
     c.in-Ok.rules c.args.store.clock next.clock e c.into_disk-rig.ensures (c.in-Ok.ensures.value ∙ sym c.requires.rules) (ok_is _ c.open.result next is c.open.ensures.clock)
-    c.len-len.ensures.legal (ok_is _ c.open.result next is c.open.ensures.rules) (ok_is _ c.open.result next is c.open.ensures.up)
+    c.len-len.ensures.legal (ok_is _ c.open.result next is c.open.ensures.legal) (ok_is _ c.open.result next is c.open.ensures.rules) (ok_is _ c.open.result next is c.open.ensures.up)
     (ok_is _ c.open.result next is c.open.ensures.beside) (ok_is _ c.open.result next is c.open.ensures.ok_count) c.cut_power.ensures.count
     (c.cut_power.ensures.one here) (ok_is _ c.open.result next is c.open.ensures.opened there) stands)
 
