@@ -1,6 +1,6 @@
 -- Records of the journal as entries.
 use Rattle.std.proofs.Common.{◌≡◌, ℕ, ◌+◌, ◌<◌, ◌≤◌, Bool, true, false, List, [], ◌∷◌, ◌++◌, length, take, Option, Some, None, refl, sym, ap, ◌∙◌, subst, arith}
-use Rattle.std.specs.Prelude.{◌&&◌, nat_eq, IfSome, IfNone, slice_get, cond, is_none}
+use Rattle.std.specs.Prelude.{◌&&◌, nat_eq, IfSome, IfNone}
 use Rattle.std.proofs.lemmas.Bool.{false≢true, eqb-true, eq-eqb}
 use Rattle.delf_disk.specs.declared.area.Area.{Area}
 use Rattle.delf_disk.specs.Areas.{Areas, area_of}
@@ -11,20 +11,16 @@ use Rattle.gate_log.specs.Steps.{FrontHeadRead}
 use Rattle.entry_codec.specs.Field.{spelled}
 use Rattle.entry_codec.specs.EntryHead.{AreEntries, IsEntry, HasPayload, IsEntryHead, entry_head, what_fields}
 use Rattle.entry_codec.proofs.Entries.{one_entry}
-use Rattle.delf_model.specs.declared.call.Cause.{Cause}
 use Rattle.delf_model.specs.declared.entry.Entry.{Entry}
 use Rattle.delf_model.specs.declared.entry.What.{What}
 use Rattle.delf_model.specs.declared.entry.What.TheVariants.{Create, Update, Link, Unlink, Delete, Restore, Expire, Cut, Erase, Put, Purge}
-use Rattle.delf_model.specs.declared.rows.Item.{Item}
 use Rattle.delf_model.specs.RuleSet.{RuleSet}
-use Rattle.delf_model.specs.State.{State, Logged, start, size_of as item_size_of}
+use Rattle.delf_model.specs.State.{State, start}
 use Rattle.delf_model.specs.Step.{step, run, after}
-use Rattle.delf_model.specs.Puts.{judged}
 use Rattle.delf_model.specs.Legal.{is_legal}
 use Rattle.delf_model.proofs.Runs.{Legal_push}
-use Rattle.job_table.specs.Table.{item_at}
-use Rattle.payload_laws.specs.Holders.{record_size, put_size}
-use Rattle.ledger.specs.Ledgers.{Ledgered, state_of, record_size as book_size, size_of_put, put_size as put_size_of, IsSame, HasEntered}
+use Rattle.payload_laws.specs.Holders.{record_size}
+use Rattle.ledger.specs.Ledgers.{Ledgered, state_of, IsSame, HasEntered}
 use Rattle.delf_book.proofs.Sizes.{journal_sizes-push}
 use Rattle.opening_laws.specs.Places.{IsRecordOf, IsWrong, AreRecordsOf}
 use Rattle.delf_recovery.specs.Reading.{IsRead, IsNoEntry, TakesEntry, RefusesEntry, JudgesEntry, ReadsEntries, EndsWrong, record_at}
@@ -71,29 +67,6 @@ module _ (plain : Type 0) (area : Area) (sizes : List (ℕ × ℕ)) (i : ℕ) (a
         none e (subst (λ (l : List ℕ). IsEntryHead e l n) (sym (read is mark rs sized front))
         (subst (IsEntryHead e (head_of rs i)) ((sized_at rs sizes i sized inside).payload ∙ sym size) head))
 
--- both definitions of the size of a record are one
-
-put_sizes : (s : State) (it : Item) (c : Option Cause) → put_size_of c it ≡ cond (is_none c) (item_size_of it) 0
-put_sizes s it None = refl
-put_sizes s it (Some cause) = refl
-
-sizes_of_put : (s : State) (i : ℕ) (found : Option Logged) → slice_get s.items i ≡ found → size_of_put s (item_at s i) ≡ put_size s (slice_get s.items i)
-sizes_of_put s i None is = rw is refl
-sizes_of_put s i (Some logged) is = rw is (put_sizes s logged.item (judged s logged.item))
-
-same_sizes : (s : State) (w : What) → book_size s w ≡ record_size s w
-same_sizes s (Create tag type id size) = refl
-same_sizes s (Update tag id size) = refl
-same_sizes s (Link tag edge from to size) = refl
-same_sizes s (Unlink tag edge from to name) = refl
-same_sizes s (Delete tag id name) = refl
-same_sizes s (Restore tag job) = refl
-same_sizes s (Expire id) = refl
-same_sizes s (Cut job edge from to) = refl
-same_sizes s (Erase job id) = refl
-same_sizes s (Put job i) = sizes_of_put s i (slice_get s.items i) refl
-same_sizes s (Purge job) = refl
-
 -- the judgement of the fold
 
 both_true : (a b : Bool) → true ≡ (a && b) → (a ≡ true) × (b ≡ true)
@@ -111,16 +84,16 @@ module _ {G : Type 0} (plain : Type 0) (area : Area) (sizes : List (ℕ × ℕ))
     wrong = λ is mark rs sized front e of. none is mark rs sized front e of.head;
   }
 
-  pub judges : (entry : Entry) (taken : Bool) → IsRead plain area sizes i areas entry → taken ≡ (is_legal (state_of old) entry && nat_eq n (book_size (state_of old) entry.what))
+  pub judges : (entry : Entry) (taken : Bool) → IsRead plain area sizes i areas entry → taken ≡ (is_legal (state_of old) entry && nat_eq n (record_size (state_of old) entry.what))
       → (taken ≡ true → HasEntered old new entry) → (taken ≡ false → IsSame old new) → JudgesEntry plain area sizes i areas old new taken
   judges entry true read exact enters stays =
-      let both = both_true (is_legal (state_of old) entry) (nat_eq n (book_size (state_of old) entry.what)) exact in
+      let both = both_true (is_legal (state_of old) entry) (nat_eq n (record_size (state_of old) entry.what)) exact in
       record {
         entry = entry;
         entered = enters refl;
         is_read = read;
         line = both.0;
-        payload = sym (same_sizes (state_of old) entry.what) ∙ (sym (eqb-true n (book_size (state_of old) entry.what) both.1) ∙ size);
+        payload = sym (eqb-true n (record_size (state_of old) entry.what) both.1) ∙ size;
       }
   judges entry false read exact enters stays = record {
     same = stays refl;
@@ -134,9 +107,9 @@ module _ {G : Type 0} (plain : Type 0) (area : Area) (sizes : List (ℕ × ℕ))
         } in
         let same : e ≡ entry = one_entry e entry (head_of rs i) (length (payload_of rs i)) of.head own in
         let line : is_legal s entry ≡ true = ap (is_legal s) (sym same) ∙ of.line in
-        let fits : n ≡ book_size s entry.what =
-        size ∙ (sym here.payload ∙ (of.size ∙ (ap (λ (x : Entry). record_size s x.what) same ∙ sym (same_sizes s entry.what)))) in
-        none_true (is_legal s entry) (nat_eq n (book_size s entry.what)) exact line (eq-eqb n (book_size s entry.what) fits);
+        let fits : n ≡ record_size s entry.what =
+        size ∙ (sym here.payload ∙ (of.size ∙ ap (λ (x : Entry). record_size s x.what) same)) in
+        none_true (is_legal s entry) (nat_eq n (record_size s entry.what)) exact line (eq-eqb n (record_size s entry.what) fits);
   }
 
 -- one record more
