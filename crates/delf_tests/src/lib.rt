@@ -14,6 +14,8 @@ mod loads;
 #[cfg(test)]
 mod openings;
 #[cfg(test)]
+mod photos;
+#[cfg(test)]
 mod reads;
 #[cfg(test)]
 mod rows;
