@@ -6,8 +6,6 @@ use Rattle.std.specs.Str.Lines.{lines}
 use Rattle.std.specs.List.{All, AllByRecursion}
 use Rattle.delf_model.specs.declared.schema.Schema.{Schema}
 use Rattle.delf_model.specs.declared.schema.ObjectType.{ObjectType}
-use Rattle.delf_model.specs.declared.schema.ObjectRule.{ObjectRule}
-use Rattle.delf_model.specs.declared.schema.ObjectRule.TheVariants.{Directly, DirectlyOnly, ByAny, ShortTtl, NotDeleted}
 use Rattle.delf_model.specs.declared.rules.Broken.{Broken}
 use Rattle.delf_model.specs.declared.rules.Broken.TheVariants.{ObjectTwice, EdgeTwice, Undeclared, CannotTake, NoRoute}
 use Rattle.delf_model.specs.declared.call.Call.{Call}
@@ -23,7 +21,7 @@ use Rattle.delf_model.specs.Checked as checked
 use Rattle.delf_model.specs.Checked.{IsChecked, IsExpiry, numbered, shape_of}
 use Rattle.schema_lang.specs.declared.fault.SchemaFault.{SchemaFault}
 use Rattle.schema_lang.specs.declared.fault.SchemaFault.TheVariants as schema
-use Rattle.schema_lang.specs.Spelling.{IsSpellable, FitsRule, FitsObject}
+use Rattle.schema_lang.specs.Spelling.{IsSpellable, FitsObject}
 use Rattle.schema_lang.specs.Grammar as grammar
 use Rattle.script_lang.specs.declared.fault.DocumentFault.{DocumentFault}
 use Rattle.script_lang.specs.declared.fault.DocumentFault.TheVariants.{Bad, OutOfMemory}
@@ -36,17 +34,10 @@ use Rattle.documents.proofs.Bounded.{HasFewLanes}
 
 -- a schema that a text can spell is one that rules can be made of
 
-expiry_of : (rule : ObjectRule) → FitsRule rule → IsExpiry rule
-expiry_of Directly fits = fits
-expiry_of DirectlyOnly fits = fits
-expiry_of ByAny fits = fits
-expiry_of (ShortTtl seconds) fits = fits
-expiry_of NotDeleted fits = fits
-
 expiries_of : (objects : List ObjectType) (k : ℕ) (d : ObjectType) → AllByRecursion FitsObject objects →
     k < length objects → IsExpiry (get_or objects k d).rule
 expiries_of [] k d fit below = absurd (omega arith)
-expiries_of (object ∷ more) zero d fit below = expiry_of object.rule fit.0.rule
+expiries_of (object ∷ more) zero d fit below = fit.0.rule
 expiries_of (object ∷ more) (suc k) d fit below = expiries_of more k d fit.1 (omega arith)
 
 pub spellable_of : (schema : Schema) → IsSpellable schema → checked.IsSpellable schema

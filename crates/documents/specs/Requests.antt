@@ -1,6 +1,7 @@
 -- Which words are a command of the program, what they ask for, and at which moment a run starts.
 use Rattle.std.specs.Prelude.{ℕ, ◌≤◌, ◌&&◌, Option, Some, None, Result, Ok, Err, List, [], ◌∷◌, take, drop, if◌then◌else◌, codes}
 use Rattle.std.specs.Str.{bytes_eq}
+use Rattle.delf_model.specs.Room.{greatest_moment}
 use Rattle.schema_lang.specs.declared.why.Why.{Why}
 use Rattle.schema_lang.specs.Numbers.{number_in}
 use Rattle.documents.specs.declared.words.Start.{Start}
@@ -26,9 +27,9 @@ request_of (word ∷ []) =
     if bytes_eq word (codes "run") then Some (Run Asked) else (if bytes_eq word (codes "check") then Some Check else None)
 request_of (word ∷ behind ∷ []) =
     if bytes_eq word (codes "load") then of_size (number_in 8 20000 behind)
-    else (if bytes_eq word (codes "run") && bytes_eq (take 5 behind) (codes "--at=") then at_moment (number_in 0 999999999999 (drop 5 behind)) else None)
+    else (if bytes_eq word (codes "run") && bytes_eq (take 5 behind) (codes "--at=") then at_moment (number_in 0 greatest_moment (drop 5 behind)) else None)
 request_of (word ∷ at ∷ number ∷ []) =
-    if bytes_eq word (codes "run") && bytes_eq at (codes "--at") then at_moment (number_in 0 999999999999 number) else None
+    if bytes_eq word (codes "run") && bytes_eq at (codes "--at") then at_moment (number_in 0 greatest_moment number) else None
 request_of (word ∷ at ∷ number ∷ other ∷ more) = None
 
 -- the size of a load is within its bounds

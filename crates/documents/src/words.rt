@@ -1,8 +1,10 @@
 //! What the words of the program ask for.
 ghost use Rattle.std.specs.Prelude.{◌≡◌, ◌∷◌, [], map, string_bytes, IfSome};
+ghost use Rattle.delf_model.specs.Room.{greatest_moment};
 ghost use Rattle.schema_lang.specs.Numbers.{number_in};
 ghost use Rattle.documents.specs.Requests.{request_of, at_moment, of_size, IsSized};
 
+use delf_model::GREATEST_MOMENT;
 use schema_lang::read_number;
 
 /// Where the moment of the start comes from.
@@ -75,10 +77,10 @@ fn apart(word: &[u8], at: &[u8], number: &[u8]) -> Option<Request>
 }
 
 fn at_moment(number: &[u8]) -> Option<Request>
-    ensures request { result ≡ at_moment (number_in 0 999999999999 number.now) }
+    ensures request { result ≡ at_moment (number_in 0 greatest_moment number.now) }
     ensures sized { IfSome result IsSized }
 {
-    match read_number(number, 0, 999_999_999_999) {
+    match read_number(number, 0, GREATEST_MOMENT) {
         Ok(moment) => Some(Request::Run(Start::At(moment))),
         Err(_) => None,
     }
