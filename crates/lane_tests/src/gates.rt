@@ -15,11 +15,12 @@ fn reaches(word: &AtomicU64, least: u64) -> bool {
     false
 }
 
-/// A gate that holds its first calls, so many, until all of them have begun: those that make a record, and those that tell
-/// of an entry.
+/// A gate that holds its first calls, so many, until all of them have begun: those that tell of an entry, and of those that make a
+/// record either all or none.
 #[derive(Drop)]
 pub(crate) struct Meeting {
     many: u64,
+    holds_records: bool,
     begun: AtomicU64,
     met: AtomicU64,
 }
@@ -28,6 +29,17 @@ impl Meeting {
     pub(crate) fn of(many: u64) -> Meeting {
         Meeting {
             many,
+            holds_records: true,
+            begun: AtomicU64::new(0),
+            met: AtomicU64::new(0),
+        }
+    }
+
+    /// One that lets each record be made at once.
+    pub(crate) fn of_tellings(many: u64) -> Meeting {
+        Meeting {
+            many,
+            holds_records: false,
             begun: AtomicU64::new(0),
             met: AtomicU64::new(0),
         }
@@ -50,7 +62,9 @@ impl Meeting {
 
 impl Gate for Meeting {
     fn between(&self, claim: Claim) -> Prepared {
-        self.hold();
+        if self.holds_records {
+            self.hold();
+        }
         prepare(claim)
     }
 

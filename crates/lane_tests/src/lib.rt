@@ -10,11 +10,15 @@ mod files;
 #[cfg(test)]
 mod gates;
 #[cfg(test)]
+mod histories;
+#[cfg(test)]
 mod many;
 #[cfg(test)]
 mod orders;
 #[cfg(test)]
 mod restores;
+#[cfg(test)]
+mod rounds;
 #[cfg(test)]
 mod stores;
 #[cfg(test)]
