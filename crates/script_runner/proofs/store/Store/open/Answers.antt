@@ -13,3 +13,6 @@ returns-in-Err-open_book-clause-held_bad g c = λ plain area at bad d image. (c.
 
 pub returns-in-Err-open_book-clause-leaves : goal.returns-in-Err-open_book-clause-leaves
 returns-in-Err-open_book-clause-leaves g c = λ plain. leaves_bad c.args.rules (g.R.Disk.seen c.args.rig) g.R.Disk.may_leave c.in-Err-open_book.fault.1 c.in-Err-open_book.fault.0 (c.in-Err-open_book.ensures.stays plain)
+
+pub returns-in-Err-open_book-clause-never : goal.returns-in-Err-open_book-clause-never
+returns-in-Err-open_book-clause-never g c = λ plain history e stands. c.in-Err-open_book.ensures.never plain history e stands
