@@ -13,8 +13,8 @@ use Rattle.seat_lock.specs.declared.view.Stage.TheVariants.{Idle, Waiting, Turn}
 use Rattle.seat_lock.specs.Views.{made_by, moment, later, staged, sees, leaves, took_turn, rooted, joined_root, gone, out_of, IsOrdered}
 use Rattle.seat_lock.specs.Promises.{NoneFrom, OnlyMade, IsNext, Grows, Closes}
 use Rattle.seat_lock.specs.Turns.{Kept}
-use Rattle.seat_lock.specs.Plays.{passed, learned, Looked, looked, raised}
-use Rattle.seat_lock.proofs.Steps.{looks, raises, passes, learns}
+use Rattle.seat_lock.specs.Plays.{passed, rang, learned, Looked, looked, raised}
+use Rattle.seat_lock.proofs.Steps.{looks, raises, passes, rings, learns}
 use Rattle.seat_lock.proofs.Seats.{begins, joins, closes}
 
 longest : {S : Type 0} (f : Moment S → ℕ) (a b : Moment S) (t : Bool) → f a ≤ f (if t then b else a) → f b ≤ f (if t then b else a) → max (f a) (f b) ≡ f (if t then b else a)
@@ -46,14 +46,14 @@ module _ {T S E : Type 0} (state : T → S) (entries : S → List E) (maker : E 
   pub handed : (m m' : Me (Option T) (View S E)) (y : T) → m.1 ≡ (0, None) ∷ [] → m' ≡ (m.0, (0, Some y) ∷ rest m.1) → m' ≡ (m.0, (0, Some y) ∷ [])
   handed m m' y empty e = e ∙ ap (λ (hand : List (ℕ × Option T)). (m.0, (0, Some y) ∷ rest hand)) empty
 
-  pub begins_of : ((s : S) → follows s s) → (first : ℕ) (x kept : T) (count : ℕ) (slots : List (Option T)) → kept ≡ x → count ≡ length (entries (state x)) → slots ≡ Some x ∷ []
-      → NoneFrom maker first (entries (state x)) → first < 2 ^ 32
-      → Kept state entries maker follows first (state kept) (opening (count ∷ 0 ∷ 0 ∷ []) slots (rooted first (state kept)))
-  begins_of itself first x kept count slots same counted held fresh small =
-      subst (λ (k : T). Kept state entries maker follows first (state k) (opening (count ∷ 0 ∷ 0 ∷ []) slots (rooted first (state k)))) (sym same)
-      (subst (λ (n : ℕ). Kept state entries maker follows first (state x) (opening (n ∷ 0 ∷ 0 ∷ []) slots (rooted first (state x)))) (sym counted)
-      (subst (λ (xs : List (Option T)). Kept state entries maker follows first (state x) (opening (length (entries (state x)) ∷ 0 ∷ 0 ∷ []) xs (rooted first (state x)))) (sym held)
-      (begins state entries maker follows first (state x) itself x refl fresh small)))
+  pub begins_of : ((s : S) → follows s s) → (first : ℕ) (x kept : T) (count : ℕ) (words bells : List ℕ) (slots : List (Option T)) → kept ≡ x → count ≡ length (entries (state x))
+      → words ≡ count ∷ 0 ∷ 0 ∷ bells → slots ≡ Some x ∷ [] → NoneFrom maker first (entries (state x)) → first < 2 ^ 32
+      → Kept state entries maker follows first (state kept) (opening words slots (rooted first (state kept)))
+  begins_of itself first x kept count words bells slots same counted laid held fresh small =
+      subst (λ (k : T). Kept state entries maker follows first (state k) (opening words slots (rooted first (state k)))) (sym same)
+      (subst (λ (ws : List ℕ). Kept state entries maker follows first (state x) (opening ws slots (rooted first (state x)))) (sym (laid ∙ ap (λ (n : ℕ). n ∷ 0 ∷ 0 ∷ bells) counted))
+      (subst (λ (xs : List (Option T)). Kept state entries maker follows first (state x) (opening (length (entries (state x)) ∷ 0 ∷ 0 ∷ bells) xs (rooted first (state x)))) (sym held)
+      (begins state entries maker follows first (state x) itself x bells refl fresh small)))
 
   -- a seat that has just looked for its turn and found it knows what it finds
   pub found_next : (v : View S E) (t : ℕ) (x : T) → IsNext state entries maker follows (staged v (Waiting t)) x → IsNext state entries maker follows v x
@@ -82,6 +82,10 @@ module _ {T S E : Type 0} (state : T → S) (entries : S → List E) (maker : E 
     passes_at slots id m v t y e live turn same =
         subst (λ (x : Me (Option T) (View S E)). Allows Rule slots id x 2 (λ n. (n + 1) % 2 ^ 64) (passed (step 0 0 0 0 none) x)) (sym e)
         (passes state entries maker follows first start slots id (v, (0, Some y) ∷ []) t y live turn refl same)
+
+    pub rings_at : (slots id : ℕ) (m : Me (Option T) (View S E)) (bell ticket : ℕ) → bell ≡ 3 + ticket % 32 → Allows Rule slots id m bell (λ n. (n + 1) % 2 ^ 64) (rang (step 0 0 0 0 none) m)
+    rings_at slots id m bell ticket e =
+        subst (λ (i : ℕ). Allows Rule slots id m i (λ n. (n + 1) % 2 ^ 64) (rang (step 0 0 0 0 none) m)) (sym e) (rings state entries maker follows first start slots id m (ticket % 32))
 
     pub learns_at : (slots id : ℕ) (m : Me (Option T) (View S E)) (v : View S E) (hand : List (ℕ × Option T)) → m ≡ (v, hand) → v.live ≡ true
         → Allows Rule slots id m 0 (λ n. n) (learned follows (step 0 0 0 0 none) m)

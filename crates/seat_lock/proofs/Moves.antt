@@ -18,9 +18,9 @@ use Rattle.seat_lock.specs.Turns.{Course, ticket_count, HasTurn, FitsStage, IsCo
 use Rattle.seat_lock.proofs.Lists.{at_below, one_at, at_snoc_index, total-set, carried}
 
 module _ {S E : Type 0} where
-  -- the words of a table on this course
-  abbrev pub words_of : (S → List E) → Course S E → List ℕ
-  words_of entries c = length (entries c.now) ∷ (c.drawn % 2 ^ 64) ∷ (c.served % 2 ^ 64) ∷ []
+  -- the words of a table on this course, with these bells
+  abbrev pub words_of : (S → List E) → Course S E → List ℕ → List ℕ
+  words_of entries c bells = length (entries c.now) ∷ (c.drawn % 2 ^ 64) ∷ (c.served % 2 ^ 64) ∷ bells
 
   pub live_count : (v : View S E) → v.live ≡ true → ◌≡◌ {A = ℕ} (if v.live then 1 else 0) 1
   live_count v live = ap (λ (b : Bool). let n : ℕ = if b then 1 else 0 in n) live
@@ -133,9 +133,10 @@ module _ {T S E : Type 0} (state : T → S) (entries : S → List E) (maker : E 
       → OnlyMade maker v.number (entries k.course.now) (entries c'.now)
       → ((j t : ℕ) (u : View S E) → j ≢ id → get_elem? s.views j ≡ some u → ticket u.stage ≡ Some t → ticket w.stage ≡ Some t → ⊥)
       → (((i : ℕ) (u : View S E) → get_elem? (set s.views id w) i ≡ some u → ¬ HasTurn u) → (x : T) × (get_elem? homes 0 ≡ some (some (Some x))) × (state x ≡ c'.now))
-      → Kept state entries maker follows first start (record { words = words_of entries c'; homes = homes; views = set s.views id w })
+      → Kept state entries maker follows first start (record { words = words_of entries c' k.bells; homes = homes; views = set s.views id w })
   moved s k id v w c' homes at live live' limit joined deep queued past stage stages fits longer only apart home = record {
     course = c';
+    bells = k.bells;
     words = refl;
     deep = deep;
     queued = (let h = total-set (λ (u : View S E). ticket_count u.stage) s.views id v w at in let q = k.queued in omega arith);

@@ -102,10 +102,11 @@ module _ {T S E : Type 0} (state : T → S) (entries : S → List E) (maker : E 
     unjoined = λ p h. absurd (none_in p h);
   }
 
-  pub begins : ((s : S) → follows s s) → (x : T) → state x ≡ start → NoneFrom maker first (entries start) → first < 2 ^ 32
-      → Rule (opening (length (entries start) ∷ 0 ∷ 0 ∷ []) (Some x ∷ []) (rooted first start))
-  begins itself x same fresh small = record {
+  pub begins : ((s : S) → follows s s) → (x : T) (bells : List ℕ) → state x ≡ start → NoneFrom maker first (entries start) → first < 2 ^ 32
+      → Rule (opening (length (entries start) ∷ 0 ∷ 0 ∷ bells) (Some x ∷ []) (rooted first start))
+  begins itself x bells same fresh small = record {
     course = first_course;
+    bells = bells;
     words = refl;
     deep = refl;
     queued = refl;
@@ -176,6 +177,7 @@ module _ {T S E : Type 0} (state : T → S) (entries : S → List E) (maker : E 
       → Rule (record { words = s.words; homes = s.homes; views = set s.views id (split_root v) ++ split_off v ∷ [] })
   splits_kept s k id v at live above small = record {
     course = longer_limit c;
+    bells = k.bells;
     words = k.words;
     deep = k.deep;
     queued = (
@@ -305,6 +307,7 @@ module _ {T S E : Type 0} (state : T → S) (entries : S → List E) (maker : E 
       → Rule (record { words = s.words; homes = s.homes; views = set (set s.views id (joined_root v w)) other (gone blank) })
   joins_kept s k id other v w blank ne at live free above at' live' free' = record {
     course = one_joined c w;
+    bells = k.bells;
     words = k.words;
     deep = k.deep;
     queued = (

@@ -13,27 +13,33 @@ use Rattle.seat_lock.specs.declared.view.Stage.TheVariants.{Idle, Waiting, Turn}
 use Rattle.seat_lock.specs.Views.{made_by, moment, ticket, staged, sees, leaves, IsOrdered}
 use Rattle.seat_lock.specs.Promises.{IsNext, OnlyMade}
 use Rattle.seat_lock.specs.Turns.{Course, ticket_count, HasTurn, FitsStage, IsCourse, Fits, Kept}
-use Rattle.seat_lock.specs.Plays.{drew, passed, learned, Looked, looked, raised}
+use Rattle.seat_lock.specs.Plays.{drew, passed, rang, learned, Looked, looked, raised}
 use Rattle.seat_lock.proofs.Lists.{at_below, one_at, total-below, total-at, raised-mod}
 use Rattle.seat_lock.proofs.Moves.{words_of, live_count, no_turn_before, turn_is_served, waits_between, ticket_between, longer_course, restaged, refreshed, moved}
 
--- the words after one of three was raised
-word_drawn : (ws : List ℕ) (a b c : ℕ) → ws ≡ a ∷ (b % 2 ^ 64) ∷ c ∷ [] → (a ∷ ((b + 1) % 2 ^ 64) ∷ c ∷ []) ≡ set ws 1 ((slice_index ws 1 + 1) % 2 ^ 64)
-word_drawn ws a b c e = ap (λ (n : ℕ). a ∷ n ∷ c ∷ []) (sym (raised-mod b 1)) ∙ ap (λ (l : List ℕ). set l 1 ((slice_index l 1 + 1) % 2 ^ 64)) (sym e)
+-- the words after one of the first three was raised
+word_drawn : (ws bells : List ℕ) (a b c : ℕ) → ws ≡ a ∷ (b % 2 ^ 64) ∷ c ∷ bells → (a ∷ ((b + 1) % 2 ^ 64) ∷ c ∷ bells) ≡ set ws 1 ((slice_index ws 1 + 1) % 2 ^ 64)
+word_drawn ws bells a b c e = ap (λ (n : ℕ). a ∷ n ∷ c ∷ bells) (sym (raised-mod b 1)) ∙ ap (λ (l : List ℕ). set l 1 ((slice_index l 1 + 1) % 2 ^ 64)) (sym e)
 
-word_passed : (ws : List ℕ) (a b c : ℕ) → ws ≡ a ∷ b ∷ (c % 2 ^ 64) ∷ [] → (a ∷ b ∷ ((c + 1) % 2 ^ 64) ∷ []) ≡ set ws 2 ((slice_index ws 2 + 1) % 2 ^ 64)
-word_passed ws a b c e = ap (λ (n : ℕ). a ∷ b ∷ n ∷ []) (sym (raised-mod c 1)) ∙ ap (λ (l : List ℕ). set l 2 ((slice_index l 2 + 1) % 2 ^ 64)) (sym e)
+word_passed : (ws bells : List ℕ) (a b c : ℕ) → ws ≡ a ∷ b ∷ (c % 2 ^ 64) ∷ bells → (a ∷ b ∷ ((c + 1) % 2 ^ 64) ∷ bells) ≡ set ws 2 ((slice_index ws 2 + 1) % 2 ^ 64)
+word_passed ws bells a b c e = ap (λ (n : ℕ). a ∷ b ∷ n ∷ bells) (sym (raised-mod c 1)) ∙ ap (λ (l : List ℕ). set l 2 ((slice_index l 2 + 1) % 2 ^ 64)) (sym e)
 
-word_raised : (ws : List ℕ) (a b c more sum : ℕ) → ws ≡ a ∷ b ∷ c ∷ [] → a + more ≡ sum → sum < 2 ^ 64 → (sum ∷ b ∷ c ∷ []) ≡ set ws 0 ((slice_index ws 0 + more) % 2 ^ 64)
-word_raised ws a b c more sum e add small =
+word_raised : (ws bells : List ℕ) (a b c more sum : ℕ) → ws ≡ a ∷ b ∷ c ∷ bells → a + more ≡ sum → sum < 2 ^ 64 → (sum ∷ b ∷ c ∷ bells) ≡ set ws 0 ((slice_index ws 0 + more) % 2 ^ 64)
+word_raised ws bells a b c more sum e add small =
     let p : sum ≡ (a + more) % 2 ^ 64 = omega arith in
-    ap (λ (n : ℕ). n ∷ b ∷ c ∷ []) p ∙ ap (λ (l : List ℕ). set l 0 ((slice_index l 0 + more) % 2 ^ 64)) (sym e)
+    ap (λ (n : ℕ). n ∷ b ∷ c ∷ bells) p ∙ ap (λ (l : List ℕ). set l 0 ((slice_index l 0 + more) % 2 ^ 64)) (sym e)
 
-word_same : (ws : List ℕ) (a b c i : ℕ) → ws ≡ a ∷ b ∷ c ∷ [] → i < 3 → set ws i (slice_index ws i) ≡ ws
-word_same ws a b c zero e h = ap (λ (l : List ℕ). set l 0 (slice_index l 0)) e ∙ sym e
-word_same ws a b c (suc zero) e h = ap (λ (l : List ℕ). set l 1 (slice_index l 1)) e ∙ sym e
-word_same ws a b c (suc (suc zero)) e h = ap (λ (l : List ℕ). set l 2 (slice_index l 2)) e ∙ sym e
-word_same ws a b c (suc (suc (suc i))) e h = absurd (omega arith)
+word_same : (ws bells : List ℕ) (a b c i : ℕ) → ws ≡ a ∷ b ∷ c ∷ bells → i < 3 → set ws i (slice_index ws i) ≡ ws
+word_same ws bells a b c zero e h = ap (λ (l : List ℕ). set l 0 (slice_index l 0)) e ∙ sym e
+word_same ws bells a b c (suc zero) e h = ap (λ (l : List ℕ). set l 1 (slice_index l 1)) e ∙ sym e
+word_same ws bells a b c (suc (suc zero)) e h = ap (λ (l : List ℕ). set l 2 (slice_index l 2)) e ∙ sym e
+word_same ws bells a b c (suc (suc (suc i))) e h = absurd (omega arith)
+
+-- the words after a bell was rung
+word_rung : (ws bells : List ℕ) (a b c k n : ℕ) → ws ≡ a ∷ b ∷ c ∷ bells → set ws (3 + k) n ≡ a ∷ b ∷ c ∷ set bells k n
+word_rung ws bells a b c k n e =
+    let third : 3 + k ≡ suc (suc (suc k)) = omega arith in
+    ap (λ (l : List ℕ). set l (3 + k) n) e ∙ ap (λ (i : ℕ). set (a ∷ b ∷ c ∷ bells) i n) third
 
 module _ {S E : Type 0} where
   ticket_small : (v : View S E) → ticket_count v.stage ≤ 1
@@ -86,7 +92,7 @@ module _ {T S E : Type 0} (state : T → S) (entries : S → List E) (maker : E 
   few_out s k = let a = k.queued in let b = k.given in let c = k.few in let d = total-below (λ (v : View S E). ticket_count v.stage) ticket_small s.views in omega arith
 
   drew_kept : (s : State (Option T) (View S E)) (k : Rule s) (id : ℕ) (v : View S E) → get_elem? s.views id ≡ some v → v.live ≡ true → v.stage ≡ Idle
-      → Rule (record { words = words_of entries (record k.course { drawn = k.course.drawn + 1 }); homes = s.homes; views = set s.views id (staged v (Waiting k.course.drawn)) })
+      → Rule (record { words = words_of entries (record k.course { drawn = k.course.drawn + 1 }) k.bells; homes = s.homes; views = set s.views id (staged v (Waiting k.course.drawn)) })
   drew_kept s k id v at live free =
       let c = k.course in
       moved state entries maker follows first start s k id v (staged v (Waiting c.drawn)) (record c { drawn = c.drawn + 1 }) s.homes at live live refl refl k.deep
@@ -107,7 +113,7 @@ module _ {T S E : Type 0} (state : T → S) (entries : S → List E) (maker : E 
         keeps,
         tt,
         subst (λ (ws : List ℕ). Rule (record { words = ws; homes = s.homes; views = set s.views id (staged m.0 (Waiting c.drawn)) }))
-            (word_drawn s.words (length (entries c.now)) c.drawn (c.served % 2 ^ 64) k.words)
+            (word_drawn s.words k.bells (length (entries c.now)) c.drawn (c.served % 2 ^ 64) k.words)
             (drew_kept s k id m.0 at live free),
         (c.drawn, ap (λ (ws : List ℕ). slice_index ws 1) k.words, refl),
       )
@@ -132,7 +138,7 @@ module _ {T S E : Type 0} (state : T → S) (entries : S → List E) (maker : E 
       waiting_has_no_turn u t (ap (λ (x : View S E). x.stage) one ∙ waits) h
 
   found_kept : (s : State (Option T) (View S E)) (k : Rule s) (id : ℕ) (v : View S E) (t : ℕ) → get_elem? s.views id ≡ some v → v.live ≡ true → v.stage ≡ Waiting t → k.course.served ≡ t
-      → Rule (record { words = words_of entries k.course; homes = set s.homes 0 none; views = set s.views id (sees (staged v (Turn t)) (moment k.course.clock k.course.now)) })
+      → Rule (record { words = words_of entries k.course k.bells; homes = set s.homes 0 none; views = set s.views id (sees (staged v (Turn t)) (moment k.course.clock k.course.now)) })
   found_kept s k id v t at live waits served =
       let c = k.course in
       let w = sees (staged v (Turn t)) (moment c.clock c.now) in
@@ -164,7 +170,7 @@ module _ {T S E : Type 0} (state : T → S) (entries : S → List E) (maker : E 
       → Rule (record { words = set s.words i (slice_index s.words i); homes = s.homes; views = set s.views id v })
   unchanged s k i id v below at =
       subst (λ (ws : List ℕ). Rule (record { words = ws; homes = s.homes; views = set s.views id v }))
-      (sym (word_same s.words (length (entries k.course.now)) (k.course.drawn % 2 ^ 64) (k.course.served % 2 ^ 64) i k.words below))
+      (sym (word_same s.words k.bells (length (entries k.course.now)) (k.course.drawn % 2 ^ 64) (k.course.served % 2 ^ 64) i k.words below))
       (subst (λ (vs : List (View S E)). Rule (record { words = s.words; homes = s.homes; views = vs })) (sym (set_again s.views id v at)) k)
 
   -- what a look that finds the seat's ticket does
@@ -180,7 +186,7 @@ module _ {T S E : Type 0} (state : T → S) (entries : S → List E) (maker : E 
         takes 0 (Some h.0),
         h.1,
         subst (λ (ws : List ℕ). Rule (record { words = ws; homes = set s.homes 0 none; views = set s.views id (sees (staged m.0 (Turn t)) (moment c.clock c.now)) }))
-            (sym k.words ∙ sym (word_same s.words (length (entries c.now)) (c.drawn % 2 ^ 64) (c.served % 2 ^ 64) 2 k.words (omega arith)))
+            (sym k.words ∙ sym (word_same s.words k.bells (length (entries c.now)) (c.drawn % 2 ^ 64) (c.served % 2 ^ 64) 2 k.words (omega arith)))
             (found_kept s k id m.0 t at live waits served),
         record {
           hit = λ e. (h.0, c.clock, next_is s k id m.0 h.0 at live h.2, ap (λ (y : S). (sees (staged m.0 (Turn t)) (moment c.clock y), (0, Some h.0) ∷ m.1)) (sym h.2));
@@ -239,7 +245,7 @@ module _ {T S E : Type 0} (state : T → S) (entries : S → List E) (maker : E 
 
   left_kept : (s : State (Option T) (View S E)) (k : Rule s) (id : ℕ) (v : View S E) (t : ℕ) (y : S) → get_elem? s.views id ≡ some v → v.live ≡ true → v.stage ≡ Turn t
       → IsCourse follows (next_course k.course y) → OnlyMade maker v.number (entries k.course.now) (entries y)
-      → Rule (record { words = words_of entries (next_course k.course y); homes = s.homes; views = set s.views id (left_view k.course v y) })
+      → Rule (record { words = words_of entries (next_course k.course y) k.bells; homes = s.homes; views = set s.views id (left_view k.course v y) })
   left_kept s k id v t y at live turn past only =
       let c = k.course in
       let w = left_view c v y in
@@ -274,7 +280,7 @@ module _ {T S E : Type 0} (state : T → S) (entries : S → List E) (maker : E 
         keeps,
         tt,
         subst (λ (ws : List ℕ). Rule (record { words = ws; homes = s.homes; views = set s.views id (left_view c m.0 (state y)) }))
-            (word_raised s.words (length (entries c.now)) (c.drawn % 2 ^ 64) (c.served % 2 ^ 64) more (length (entries (state y))) k.words (ap (λ (x : S). length (entries x) + more) (sym same) ∙ count) fits)
+            (word_raised s.words k.bells (length (entries c.now)) (c.drawn % 2 ^ 64) (c.served % 2 ^ 64) more (length (entries (state y))) k.words (ap (λ (x : S). length (entries x) + more) (sym same) ∙ count) fits)
             (left_kept s k id m.0 t (state y) at live turn past (subst (λ (x : S). OnlyMade maker m.0.number (entries x) (entries (state y))) same only)),
         λ x e. record {
           left = (c.clock + 1, ap (λ (z : T). (left_view c m.0 (state z), m.1)) (same_value m.1 x y e held));
@@ -283,7 +289,7 @@ module _ {T S E : Type 0} (state : T → S) (entries : S → List E) (maker : E 
       )
 
   passed_kept : (s : State (Option T) (View S E)) (k : Rule s) (id : ℕ) (v : View S E) (t : ℕ) (y : T) → get_elem? s.views id ≡ some v → v.live ≡ true → v.stage ≡ Turn t → state y ≡ v.seen.state
-      → Rule (record { words = words_of entries (record k.course { served = k.course.served + 1 }); homes = set s.homes 0 (some (Some y)); views = set s.views id (staged v Idle) })
+      → Rule (record { words = words_of entries (record k.course { served = k.course.served + 1 }) k.bells; homes = set s.homes 0 (some (Some y)); views = set s.views id (staged v Idle) })
   passed_kept s k id v t y at live turn same =
       let c = k.course in
       let served = turn_is_served c v.seen v.stage t turn (k.stages id v at) in
@@ -308,9 +314,43 @@ module _ {T S E : Type 0} (state : T → S) (entries : S → List E) (maker : E 
         tt,
         subst (λ (hand : List (ℕ × Option T)). Rule (stepped s 2 ((slice_index s.words 2 + 1) % 2 ^ 64) id hand (staged m.0 Idle) gives)) (sym held)
             (subst (λ (ws : List ℕ). Rule (record { words = ws; homes = set s.homes 0 (some (Some y)); views = set s.views id (staged m.0 Idle) }))
-            (word_passed s.words (length (entries c.now)) (c.drawn % 2 ^ 64) c.served k.words)
+            (word_passed s.words k.bells (length (entries c.now)) (c.drawn % 2 ^ 64) c.served k.words)
             (passed_kept s k id m.0 t y at live turn same)),
         ap (λ (hand : List (ℕ × Option T)). (staged m.0 Idle, carried_after hand gives)) held,
+      )
+
+  -- other bells
+  rung_kept : (s : State (Option T) (View S E)) (k : Rule s) (bells : List ℕ) → Rule (record { words = words_of entries k.course bells; homes = s.homes; views = s.views })
+  rung_kept s k bells = record {
+    course = k.course;
+    bells = bells;
+    words = refl;
+    deep = k.deep;
+    queued = k.queued;
+    given = k.given;
+    few = k.few;
+    rooted = k.rooted;
+    out = k.out;
+    past = k.past;
+    stages = k.stages;
+    seats = k.seats;
+    idle = k.idle;
+    apart = k.apart;
+    home = k.home;
+    numbers = k.numbers;
+  }
+
+  pub rings : (slots id : ℕ) (m : Me (Option T) (View S E)) (bell : ℕ) → Allows Rule slots id m (3 + bell) (λ n. (n + 1) % 2 ^ 64) (rang (step 0 0 0 0 none) m)
+  rings slots id m bell s k deep at small =
+      let n = (slice_index s.words (3 + bell) + 1) % 2 ^ 64 in (
+        m.0,
+        keeps,
+        tt,
+        subst (λ (vs : List (View S E)). Rule (record { words = set s.words (3 + bell) n; homes = s.homes; views = vs })) (sym (set_again s.views id m.0 at))
+            (subst (λ (ws : List ℕ). Rule (record { words = ws; homes = s.homes; views = s.views }))
+            (sym (word_rung s.words k.bells (length (entries k.course.now)) (k.course.drawn % 2 ^ 64) (k.course.served % 2 ^ 64) bell n k.words))
+            (rung_kept s k (set k.bells bell n))),
+        refl,
       )
 
   root_tally : (s : State (Option T) (View S E)) (k : Rule s) (id : ℕ) (v : View S E) → get_elem? s.views id ≡ some v → v.live ≡ true → 0 < v.next → v.number + 1 + length v.joined ≤ v.next

@@ -15,6 +15,10 @@ module _ {T S E : Type 0} where
   abbrev pub passed : Step (Option T) → Me (Option T) (View S E) → ℕ → Me (Option T) (View S E) → Type 0
   passed s m r m' = m' ≡ (staged m.0 Idle, [])
 
+  -- it has rung a bell, which changes nothing that it knows
+  abbrev pub rang : Step (Option T) → Me (Option T) (View S E) → ℕ → Me (Option T) (View S E) → Type 0
+  rang s m r m' = m' ≡ m
+
   -- it has learned what the rule says of its view
   abbrev pub learned : (S → S → Type 0) → Step (Option T) → Me (Option T) (View S E) → ℕ → Me (Option T) (View S E) → Type 0
   learned follows s m r m' = (m' ≡ m) × IsOrdered follows m.0 × (0 < m.0.next → m.0.number + 1 + length m.0.joined ≤ m.0.next)

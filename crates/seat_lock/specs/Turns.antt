@@ -73,10 +73,12 @@ module _ {S E : Type 0} where
       pub unborn : (n : ℕ) → c.limit ≤ n → made_by maker n (entries c.now) ≡ []
 
 module _ {T S E : Type 0} (state : T → S) (entries : S → List E) (maker : E → Option ℕ) (follows : S → S → Type 0) (first : ℕ) (start : S) where
-  -- while no seat has the turn, the value is at home in the state `now`. A seat is known by its place among the views
+  -- while no seat has the turn, the value is at home in the state `now`. A seat is known by its place among the views. The
+  -- bells are the words on which seats sleep: they tell nothing, and may have any value
   pub record Kept (s : State (Option T) (View S E)) : Type 0 where
     pub course : Course S E
-    pub words : s.words ≡ length (entries course.now) ∷ (course.drawn % 2 ^ 64) ∷ (course.served % 2 ^ 64) ∷ []
+    pub bells : List ℕ
+    pub words : s.words ≡ length (entries course.now) ∷ (course.drawn % 2 ^ 64) ∷ (course.served % 2 ^ 64) ∷ bells
     pub deep : length s.homes ≡ 1
     pub queued : course.drawn ≡ course.served + tickets s.views
     pub given : course.limit ≡ first + length s.views

@@ -1,12 +1,12 @@
 // The lock and its seats.
-ghost use Rattle.std.specs.Prelude.{◌≡◌, ℕ, ◌+◌, ◌<◌, ◌≤◌, ◌^◌, ◌↔◌, true, [], ◌∷◌, length, IsTrue, IfOk, IfErr, IsOkAnd};
+ghost use Rattle.std.specs.Prelude.{◌≡◌, ℕ, ◌+◌, ◌<◌, ◌≤◌, ◌^◌, ◌↔◌, true, ◌%◌, [], ◌∷◌, length, replicate, IsTrue, IfOk, IfErr, IsOkAnd};
 ghost use Rattle.std.specs.Fn.{FnOnceTakesAtMut, FnOnceReturnsAtMut};
 ghost use Rattle.seat_lock.specs.declared.view.Stage.TheVariants.{Idle, Turn};
 ghost use Rattle.seat_lock.specs.Views.{made_by, moment, staged, sees, leaves, took_turn, rooted, split_root, split_off, joined_root, IsRoot, CanSplit, out_of, IsOrdered};
 ghost use Rattle.seat_lock.specs.Promises.{NoneFrom, OnlyMade, IsNext, Grows, Closes};
 
 use crate::counted::Counted;
-use crate::plays::{Cut, Draw, Glue, Learn, Look, Origin, Pass, Raise, Turns};
+use crate::plays::{Cut, Draw, Glue, Learn, Look, Origin, Pass, Raise, Ring, Turns};
 use crate::view::View;
 use atomic_table::{Refused, Table};
 use std::alloc::{AllocError, AllocFailed, Global};
@@ -14,12 +14,18 @@ use std::snapshot::Snapshot;
 use std::sync::Wait;
 use std::time::Duration;
 
-// The words of the table, and its slot.
+// The words of the table, and its slot. Behind the first three words stand the bells.
 const HISTORY: usize = 0;
 
 const NEXT_TICKET: usize = 1;
 
 const SERVED_TICKET: usize = 2;
+
+const FIRST_BELL: usize = 3;
+
+const BELLS: usize = 32;
+
+const WORDS: usize = FIRST_BELL + BELLS;
 
 const VALUE: usize = 0;
 
@@ -29,7 +35,7 @@ type Place<V> = atomic_table::Seat<Option<V>, View<<V as Counted>::State, <V as 
 #[derive(Drop)]
 pub struct SeatLock<V: Counted> {
     table: Table<Option<V>, View<V::State, V::Entry>, Origin<V>, Turns, Global>,
-    ghost sized: { (table.shared.table_id.words ≡ 3) × (table.shared.table_id.slots ≡ 1) },
+    ghost sized: { (table.shared.table_id.words ≡ 35) × (table.shared.table_id.slots ≡ 1) },
 }
 
 /// A seat at a lock, the root or one that was split from it. A seat that is dropped stays out for ever.
@@ -76,6 +82,22 @@ fn value_of<V>(refused: Refused<Option<V>, Global>) -> V
     value.unwrap()
 }
 
+// The words of a new table, whose history has so many entries.
+fn first_words(count: u32) -> [u64; WORDS]
+    ensures { result ≡ count ∷ 0 ∷ 0 ∷ replicate 32 0 }
+{
+    let mut words = [0; WORDS];
+    words[HISTORY] = count as u64;
+    words
+}
+
+// The bell of a ticket: the word on which its seat sleeps. Two seats have one bell only where 31 others wait between them.
+fn bell_of(ticket: u64) -> usize
+    ensures { result ≡ 3 + ticket % 32 }
+{
+    FIRST_BELL + ticket as usize % BELLS
+}
+
 impl<V: Counted> SeatLock<V> {
     ghost use Rattle.seat_lock.specs.Locks.{view, IsOf, start_of};
 
@@ -93,7 +115,7 @@ impl<V: Counted> SeatLock<V> {
         };
         let count = value.count();
         let slots = first_slot(alloc, value)?;
-        match Table::new(alloc, &[count as u64, 0, 0], slots, &about) {
+        match Table::new(alloc, &first_words(count), slots, &about) {
             Ok((table, place)) => {
                 let root = Seat {
                     place,
@@ -144,12 +166,15 @@ impl<V: Counted> SeatLock<V> {
     {
         let shared = &self.table.shared;
         let ticket = shared.fetch_add::<Draw>(place, NEXT_TICKET, 1);
+        let bell = bell_of(ticket);
         for _ in rt.forever() {
+            // The bell is read before the look, so one who passes after the look rings a bell that is not as it was read.
+            let rung = shared.peek(bell);
             let served = shared.load::<Look>(place, SERVED_TICKET);
             if served == ticket {
                 return shared.exchange(place, VALUE, None).unwrap();
             }
-            shared.park(rt, SERVED_TICKET, (served % (1 << 32)) as u32);
+            shared.park(rt, bell, (rung % (1 << 32)) as u32);
         }
         unreachable!()
     }
@@ -171,15 +196,20 @@ impl<V: Counted> SeatLock<V> {
         let None = empty else { unreachable!() };
         shared.fetch_add::<Raise>(place, HISTORY, more as u64);
         let served = shared.fetch_add::<Pass>(place, SERVED_TICKET, 1);
-        self.wake_behind(served);
+        self.ring(place, served.wrapping_add(1));
     }
 
-    // Wakes all that park where a ticket behind this one, which was passed, is drawn; else it makes no system call. One
-    // who draws after the look finds the turn passed before it would park.
-    fn wake_behind(&self, served: u64) {
+    // Rings the bell of the ticket that is served now, and wakes those who sleep on it, where that ticket is drawn; else it
+    // makes no system call. One who draws after the look finds the turn passed before it would sleep.
+    fn ring(&self, place: &mut Place<V>, served: u64)
+        requires { place.old.table_id ≡ self.now.table.shared.table_id }
+        ensures { (place.new.table_id ≡ place.old.table_id) × (place.new.id ≡ place.old.id) × (place.new.me ≡ place.old.me) }
+    {
         let shared = &self.table.shared;
-        if shared.peek(NEXT_TICKET) != served.wrapping_add(1) {
-            shared.wake_all(SERVED_TICKET);
+        if shared.peek(NEXT_TICKET) != served {
+            let bell = bell_of(served);
+            shared.fetch_add::<Ring>(place, bell, 1);
+            shared.wake_all(bell);
         }
     }
 

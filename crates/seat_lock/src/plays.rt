@@ -1,7 +1,7 @@
 // The rule as the table takes it, and what each step tells. These types are for the proofs alone.
 ghost use Rattle.seat_lock.specs.Views.{rooted, split_root, split_off, joined_root, gone};
 ghost use Rattle.seat_lock.specs.Turns.{Kept};
-ghost use Rattle.seat_lock.specs.Plays.{drew, passed, learned, looked, raised};
+ghost use Rattle.seat_lock.specs.Plays.{drew, passed, rang, learned, looked, raised};
 
 use crate::counted::Counted;
 use crate::view::View;
@@ -51,6 +51,12 @@ pub struct Pass;
 
 impl<T, S, E> Play<Option<T>, View<S, E>> for Pass {
     ghost then = { passed };
+}
+
+pub struct Ring;
+
+impl<T, S, E> Play<Option<T>, View<S, E>> for Ring {
+    ghost then = { rang };
 }
 
 pub struct Learn;
