@@ -14,7 +14,7 @@ use std::thread::Threads;
 
 const FOLDER: &str = "lane_tests_store";
 
-// What lanes and four workers are told over this disk, which is closed behind them, and how many entries they leave.
+// What lanes and sixteen workers are told over this disk, which is closed behind them, and how many entries they leave.
 fn tell<W: Threads + Wait + Sync, R: Rig + Send + Drop>(
     rt: &W,
     alloc: Global,
@@ -22,7 +22,7 @@ fn tell<W: Threads + Wait + Sync, R: Rig + Send + Drop>(
     lanes: &[Lane],
 ) -> Result<(Vec<LaneOut>, u32), Fail> {
     let book = store_on(alloc, disk)?;
-    let (book, outs) = run_block(rt, alloc, book, lanes, 4, 1000, &OpenGate);
+    let (book, outs) = run_block(rt, alloc, book, lanes, 16, 1000, &OpenGate);
     let len = book.len();
     drop(book.into_disk());
     Ok((outs, len))
@@ -45,7 +45,7 @@ fn files_hold_what_lanes_were_told(rt: HostRuntime) -> Result<(), Fail> {
     let _ = fs::remove_dir_all(&rt, FOLDER);
     fs::create_dir(&rt, FOLDER)?;
     let mut lanes = List::new(rt.alloc());
-    add_lanes(rt.alloc(), &mut lanes, 4)?;
+    add_lanes(rt.alloc(), &mut lanes, 0, 16)?;
     let first = FileDisk::at(&rt, rt.alloc(), FOLDER)?;
     let second = FileDisk::at(&rt, rt.alloc(), FOLDER)?;
     let found = finds(&rt, rt.alloc(), first, second, lanes.as_slice())?;

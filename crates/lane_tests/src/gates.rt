@@ -15,11 +15,12 @@ fn reaches(word: &AtomicU64, least: u64) -> bool {
     false
 }
 
-/// A gate that holds its first calls, so many, until all of them have begun: those that make a record, and those that tell
-/// of an entry.
+/// A gate that holds its first calls, so many, until all of them have begun: those that tell of an entry, and of those that make a
+/// record either all or none.
 #[derive(Drop)]
 pub(crate) struct Meeting {
     many: u64,
+    holds_records: bool,
     begun: AtomicU64,
     met: AtomicU64,
 }
@@ -28,6 +29,17 @@ impl Meeting {
     pub(crate) fn of(many: u64) -> Meeting {
         Meeting {
             many,
+            holds_records: true,
+            begun: AtomicU64::new(0),
+            met: AtomicU64::new(0),
+        }
+    }
+
+    /// One that lets each record be made at once.
+    pub(crate) fn of_tellings(many: u64) -> Meeting {
+        Meeting {
+            many,
+            holds_records: false,
             begun: AtomicU64::new(0),
             met: AtomicU64::new(0),
         }
@@ -50,7 +62,9 @@ impl Meeting {
 
 impl Gate for Meeting {
     fn between(&self, claim: Claim) -> Prepared {
-        self.hold();
+        if self.holds_records {
+            self.hold();
+        }
         prepare(claim)
     }
 
@@ -138,5 +152,42 @@ impl Gate for Watch {
                 self.stepped.fetch_add(1, Ordering::SeqCst);
             }
         }
+    }
+}
+
+/// A gate that counts its calls: the records that it made, and the entries that it was told of, with their positions added up.
+#[derive(Drop)]
+pub(crate) struct Count {
+    records: AtomicU64,
+    told: AtomicU64,
+    positions: AtomicU64,
+}
+
+impl Count {
+    pub(crate) fn new() -> Count {
+        Count {
+            records: AtomicU64::new(0),
+            told: AtomicU64::new(0),
+            positions: AtomicU64::new(0),
+        }
+    }
+
+    /// Whether it made so many records, and was told of so many entries with this sum of positions.
+    pub(crate) fn counted(&self, records: u64, told: u64, positions: u64) -> bool {
+        self.records.load(Ordering::SeqCst) == records
+            && self.told.load(Ordering::SeqCst) == told
+            && self.positions.load(Ordering::SeqCst) == positions
+    }
+}
+
+impl Gate for Count {
+    fn between(&self, claim: Claim) -> Prepared {
+        self.records.fetch_add(1, Ordering::SeqCst);
+        prepare(claim)
+    }
+
+    fn after(&self, position: u32) {
+        self.told.fetch_add(1, Ordering::SeqCst);
+        self.positions.fetch_add(position as u64, Ordering::SeqCst);
     }
 }

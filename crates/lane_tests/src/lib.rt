@@ -1,4 +1,5 @@
-//! Tests of a book that many share: lanes and workers on threads, over a disk in memory and over files. Nothing else stands here.
+//! Tests of a book that many share: seats by hand, and lanes and workers on threads, over a disk in memory and over files. Nothing
+//! else stands here.
 #![tactic(auto)]
 
 #[cfg(test)]
@@ -10,11 +11,17 @@ mod files;
 #[cfg(test)]
 mod gates;
 #[cfg(test)]
+mod histories;
+#[cfg(test)]
 mod many;
 #[cfg(test)]
 mod orders;
 #[cfg(test)]
 mod restores;
+#[cfg(test)]
+mod rounds;
+#[cfg(test)]
+mod seats;
 #[cfg(test)]
 mod stores;
 #[cfg(test)]

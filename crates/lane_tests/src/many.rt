@@ -1,7 +1,8 @@
-//! Sixteen lanes and sixteen workers, over a disk that holds, and over one that fails in their midst.
+//! Sixteen lanes and sixteen workers over a disk that holds.
 
 use crate::accounts::{adds_up, is_accepted, is_got, stand};
 use crate::blocks::run_block;
+use crate::histories::{are_those_of, read_history};
 use crate::orders::{Order, add_lane};
 use crate::stores::{ALBUM, HOLDS, OWNS, PHOTO, USER, blank, store_on};
 use delf_book::Book;
@@ -32,10 +33,15 @@ fn orders(n: u32) -> [Order; 10] {
     ]
 }
 
-/// Adds so many lanes, each of which works on objects of its own and on one that all share.
-pub(crate) fn add_lanes(alloc: Global, lanes: &mut List<Lane>, count: u32) -> Result<(), Fail> {
+/// Adds so many lanes from this number on, each of which works on objects of its own and on one that all share.
+pub(crate) fn add_lanes(
+    alloc: Global,
+    lanes: &mut List<Lane>,
+    first: u32,
+    count: u32,
+) -> Result<(), Fail> {
     for n in 0..count {
-        add_lane(alloc, lanes, &orders(n))?;
+        add_lane(alloc, lanes, &orders(first.saturating_add(n)))?;
     }
     Ok(())
 }
@@ -77,18 +83,22 @@ pub(crate) fn is_as_told<R: Rig>(
         && stand(book, lanes, outs)
 }
 
-/// Whether the store on this disk has so many entries, and all that the lanes were told.
+/// Whether the store on this disk has so many entries, each legal behind those before it, and all that the lanes were told.
 pub(crate) fn holds<R: Rig + Drop>(
     alloc: Global,
-    disk: R,
+    mut disk: R,
     len: u32,
     lanes: &[Lane],
     outs: &[LaneOut],
 ) -> Result<bool, Fail> {
+    let (entries, legal) = read_history(alloc, &mut disk)?;
+    let listed = legal
+        && entries.len() == len as usize
+        && are_those_of(&entries, 0, 1, lanes, outs);
     let book = store_on(alloc, disk)?;
     let told = book.len() == len && is_as_told(&book, lanes, outs);
     drop(book.into_disk());
-    Ok(told)
+    Ok(listed && told)
 }
 
 // Whether lanes and workers leave what they told, and a new opening of their disk finds it.
@@ -109,43 +119,9 @@ fn leaves_as_told<W: Threads + Wait + Sync, R: Rig + Send + Drop>(
 fn lanes_and_workers_leave_what_they_told(rt: HostRuntime) -> Result<(), Fail> {
     let alloc = rt.alloc();
     let mut lanes = List::new(alloc);
-    add_lanes(alloc, &mut lanes, 16)?;
+    add_lanes(alloc, &mut lanes, 0, 16)?;
     let book = store_on(alloc, blank(alloc, &[])?)?;
     let told = leaves_as_told(&rt, alloc, book, lanes.as_slice())?;
     assert!(rt; told);
-    Ok(())
-}
-
-// How many entries the store on this disk has.
-fn len_on<R: Rig + Drop>(alloc: Global, disk: R) -> Result<u32, Fail> {
-    let book = store_on(alloc, disk)?;
-    let len = book.len();
-    drop(book.into_disk());
-    Ok(len)
-}
-
-// Whether a block leaves a store that is down and has the accepted calls and the steps, and that is opened with these and
-// one entry more at most.
-fn stops_down<W: Threads + Wait + Sync, R: Rig + Send + Drop>(
-    rt: &W,
-    alloc: Global,
-    book: Book<ShardGraph, R>,
-    lanes: &[Lane],
-) -> Result<bool, Fail> {
-    let (book, outs) = run_block(rt, alloc, book, lanes, 16, 1000, &OpenGate);
-    let len = book.len();
-    let down = book.is_down() && adds_up(&book, outs.as_slice());
-    let found = len_on(alloc, book.into_disk())?;
-    Ok(down && (found == len || found == len.saturating_add(1)))
-}
-
-#[test]
-fn lanes_and_workers_stop_where_the_disk_fails(rt: HostRuntime) -> Result<(), Fail> {
-    let alloc = rt.alloc();
-    let mut lanes = List::new(alloc);
-    add_lanes(alloc, &mut lanes, 16)?;
-    let book = store_on(alloc, blank(alloc, &[400])?)?;
-    let stopped = stops_down(&rt, alloc, book, lanes.as_slice())?;
-    assert!(rt; stopped);
     Ok(())
 }

@@ -25,8 +25,8 @@ pub(crate) fn id(n: u64) -> Result<ObjectId, Fail> {
     Ok(ObjectId::new(n).ok_or("no id")?)
 }
 
-// The call that an order makes.
-fn call_of(alloc: Global, order: Order) -> Result<Call, Fail> {
+/// The call that an order makes.
+pub(crate) fn call_of(alloc: Global, order: Order) -> Result<Call, Fail> {
     match order {
         Order::Create(kind, n) => Ok(Call::Create {
             kind,

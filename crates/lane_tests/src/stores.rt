@@ -1,7 +1,7 @@
 //! A store of users, photos and albums, over a disk in memory or another one.
 ghost use Rattle.std.specs.Prelude.{◌≡◌, IfOk};
 
-use delf_book::Book;
+use delf_book::{Book, Fold, fold};
 use delf_disk::{Bytes as DiskBytes, MemDisk, Numbers, Rig};
 use delf_model::{EdgeNo, Moment, Rules, TypeNo};
 use delf_recovery::open_book;
@@ -55,4 +55,11 @@ fn open<R: Rig + Drop>(alloc: Global, rules: Rules, disk: R) -> Result<Book<Shar
 pub(crate) fn store_on<R: Rig + Drop>(alloc: Global, disk: R) -> Result<Book<ShardGraph, R>, Fail> {
     let rules = rules(alloc)?;
     open(alloc, rules, disk)
+}
+
+/// The blank history under the rules of these tests.
+pub(crate) fn blank_fold(alloc: Global) -> Result<Fold<ShardGraph>, Fail> {
+    let rules = rules(alloc)?;
+    let graph = ShardGraph::empty(alloc, &rules)?;
+    Ok(fold(alloc, rules, graph))
 }

@@ -105,6 +105,28 @@ fn lanes_and_a_worker_run_at_once(rt: HostRuntime) -> Result<(), Fail> {
     Ok(())
 }
 
+#[test]
+fn two_steps_are_told_at_once(rt: HostRuntime) -> Result<(), Fail> {
+    let before = [
+        Order::Create(USER, 1),
+        Order::Create(USER, 2),
+        Order::Delete(1, 40),
+        Order::Delete(2, 41),
+    ];
+    let gate = Meeting::of_tellings(2);
+    let left = meet(&rt, rt.alloc(), &before, 0, 2, &gate)?;
+    assert!(rt; gate.was_held());
+    assert_eq!(rt;
+        left,
+        Left {
+            len: 6,
+            lanes: 0,
+            accepted: 0
+        }
+    );
+    Ok(())
+}
+
 // What a lane that makes a user and deletes it, and one worker, leave.
 fn watch<W: Threads + Wait + Sync>(rt: &W, alloc: Global, gate: &Watch) -> Result<Left, Fail> {
     let mut lanes = List::new(alloc);
