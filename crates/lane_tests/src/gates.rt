@@ -154,3 +154,40 @@ impl Gate for Watch {
         }
     }
 }
+
+/// A gate that counts its calls: the records that it made, and the entries that it was told of, with their positions added up.
+#[derive(Drop)]
+pub(crate) struct Count {
+    records: AtomicU64,
+    told: AtomicU64,
+    positions: AtomicU64,
+}
+
+impl Count {
+    pub(crate) fn new() -> Count {
+        Count {
+            records: AtomicU64::new(0),
+            told: AtomicU64::new(0),
+            positions: AtomicU64::new(0),
+        }
+    }
+
+    /// Whether it made so many records, and was told of so many entries with this sum of positions.
+    pub(crate) fn counted(&self, records: u64, told: u64, positions: u64) -> bool {
+        self.records.load(Ordering::SeqCst) == records
+            && self.told.load(Ordering::SeqCst) == told
+            && self.positions.load(Ordering::SeqCst) == positions
+    }
+}
+
+impl Gate for Count {
+    fn between(&self, claim: Claim) -> Prepared {
+        self.records.fetch_add(1, Ordering::SeqCst);
+        prepare(claim)
+    }
+
+    fn after(&self, position: u32) {
+        self.told.fetch_add(1, Ordering::SeqCst);
+        self.positions.fetch_add(position as u64, Ordering::SeqCst);
+    }
+}

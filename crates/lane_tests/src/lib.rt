@@ -1,4 +1,5 @@
-//! Tests of a book that many share: lanes and workers on threads, over a disk in memory and over files. Nothing else stands here.
+//! Tests of a book that many share: seats by hand, and lanes and workers on threads, over a disk in memory and over files. Nothing
+//! else stands here.
 #![tactic(auto)]
 
 #[cfg(test)]
@@ -19,6 +20,8 @@ mod orders;
 mod restores;
 #[cfg(test)]
 mod rounds;
+#[cfg(test)]
+mod seats;
 #[cfg(test)]
 mod stores;
 #[cfg(test)]
