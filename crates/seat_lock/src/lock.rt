@@ -29,6 +29,9 @@ const WORDS: usize = FIRST_BELL + BELLS;
 
 const VALUE: usize = 0;
 
+// How long a seat that finds the turn taken sleeps before it draws a ticket, in microseconds.
+const REST: u64 = 2_000;
+
 type Place<V> = atomic_table::Seat<Option<V>, View<<V as Counted>::State, <V as Counted>::Entry>>;
 
 /// A value that seats take turns at. Each call that is handed a seat requires that it is one of this lock.
@@ -156,6 +159,15 @@ impl<V: Counted> SeatLock<V> {
         })
     }
 
+    // Sleeps for a while where the turn is taken: who has it can then come back for it many times without a call to the
+    // system. Nobody wakes who rests, so no pass has to know of it.
+    fn rest<R: Wait>(&self, rt: &R) {
+        let shared = &self.table.shared;
+        if shared.peek(NEXT_TICKET) != shared.peek(SERVED_TICKET) {
+            self.pause(rt, Duration::from_micros(REST));
+        }
+    }
+
     // Waits for the turn, and takes the value.
     fn take_turn<R: Wait>(&self, rt: &R, place: &mut Place<V>) -> V
         requires ours { place.old.table_id ≡ self.now.table.shared.table_id }
@@ -164,6 +176,7 @@ impl<V: Counted> SeatLock<V> {
         ensures next { IsNext V.state V.entries V.maker V.follows place.old.me.0 result }
         ensures found { (t : ℕ) × (at : ℕ) × (place.new.me ≡ (sees (staged place.old.me.0 (Turn t)) (moment at (V.state result)), (0, None) ∷ [])) }
     {
+        self.rest(rt);
         let shared = &self.table.shared;
         let ticket = shared.fetch_add::<Draw>(place, NEXT_TICKET, 1);
         let bell = bell_of(ticket);
