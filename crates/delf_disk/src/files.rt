@@ -173,7 +173,7 @@ impl Lazy {
         Lazy { paths, open: None }
     }
 
-    // The open files. Where they could not be opened, the next call tries again.
+    // The files, opened now. Where they could not be opened, the next call tries again.
     fn open<R: Files<File = File>>(&mut self, rt: &R) -> io::Result<&mut OpenFiles> {
         if self.open.is_none() {
             self.open = Some(open_files(rt, &self.paths)?);
@@ -192,6 +192,9 @@ impl Lazy {
         at: u64,
         buf: &mut [u8],
     ) -> io::Result<()> {
+        if let Some(open) = &self.open {
+            return open.read(area, at, buf);
+        }
         self.open(rt)?.read(area, at, buf)
     }
 
@@ -202,10 +205,16 @@ impl Lazy {
         at: u64,
         bytes: &[u8],
     ) -> io::Result<()> {
+        if let Some(open) = &mut self.open {
+            return open.write(area, at, bytes);
+        }
         self.open(rt)?.write(area, at, bytes)
     }
 
     pub(crate) fn sync<R: Files<File = File>>(&mut self, rt: &R) -> io::Result<()> {
+        if let Some(open) = &mut self.open {
+            return open.sync();
+        }
         self.open(rt)?.sync()
     }
 }
