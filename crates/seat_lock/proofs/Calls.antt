@@ -12,6 +12,8 @@ use Rattle.seat_lock.specs.declared.view.Stage.{Stage}
 use Rattle.seat_lock.specs.declared.view.Stage.TheVariants.{Idle, Waiting, Turn}
 use Rattle.seat_lock.specs.Views.{made_by, moment, later, staged, sees, leaves, took_turn, rooted, joined_root, gone, out_of, IsOrdered}
 use Rattle.seat_lock.specs.Promises.{NoneFrom, OnlyMade, IsNext, Grows, Closes}
+use Rattle.std.specs.Global.{Box}
+use Rattle.seat_lock.specs.Boxes.{in_box}
 use Rattle.seat_lock.specs.Turns.{Kept}
 use Rattle.seat_lock.specs.Plays.{passed, rang, learned, Looked, looked, raised}
 use Rattle.seat_lock.proofs.Steps.{looks, raises, passes, rings, learns}
@@ -42,15 +44,22 @@ module _ {S E : Type 0} where
           omega arith
 
 module _ {T S E : Type 0} (state : T → S) (entries : S → List E) (maker : E → Option ℕ) (follows : S → S → Type 0) where
+  -- what is said of the value on the heap
+  pub unboxed_next : (v : View S E) (b : Box T) → IsNext (in_box state) entries maker follows v b → IsNext state entries maker follows v b.value
+  unboxed_next v b h = record { later = h.later; own = h.own }
+
+  pub unboxed_closes : (start : S) (v : View S E) (b : Box T) → Closes (in_box state) entries maker follows start v b → Closes state entries maker follows start v b.value
+  unboxed_closes start v b h = record { later = h.later; own = h.own; joined = h.joined; elder = h.elder; unborn = h.unborn }
+
   -- the hand after the slot was written
   pub handed : (m m' : Me (Option T) (View S E)) (y : T) → m.1 ≡ (0, None) ∷ [] → m' ≡ (m.0, (0, Some y) ∷ rest m.1) → m' ≡ (m.0, (0, Some y) ∷ [])
   handed m m' y empty e = e ∙ ap (λ (hand : List (ℕ × Option T)). (m.0, (0, Some y) ∷ rest hand)) empty
 
-  pub begins_of : ((s : S) → follows s s) → (first : ℕ) (x kept : T) (count : ℕ) (words bells : List ℕ) (slots : List (Option T)) → kept ≡ x → count ≡ length (entries (state x))
+  pub begins_of : ((s : S) → follows s s) → (first : ℕ) (x : T) (start : S) (count : ℕ) (words bells : List ℕ) (slots : List (Option T)) → start ≡ state x → count ≡ length (entries (state x))
       → words ≡ count ∷ 0 ∷ 0 ∷ bells → slots ≡ Some x ∷ [] → NoneFrom maker first (entries (state x)) → first < 2 ^ 32
-      → Kept state entries maker follows first (state kept) (opening words slots (rooted first (state kept)))
-  begins_of itself first x kept count words bells slots same counted laid held fresh small =
-      subst (λ (k : T). Kept state entries maker follows first (state k) (opening words slots (rooted first (state k)))) (sym same)
+      → Kept state entries maker follows first start (opening words slots (rooted first start))
+  begins_of itself first x start count words bells slots same counted laid held fresh small =
+      subst (λ (k : S). Kept state entries maker follows first k (opening words slots (rooted first k))) (sym same)
       (subst (λ (ws : List ℕ). Kept state entries maker follows first (state x) (opening ws slots (rooted first (state x)))) (sym (laid ∙ ap (λ (n : ℕ). n ∷ 0 ∷ 0 ∷ bells) counted))
       (subst (λ (xs : List (Option T)). Kept state entries maker follows first (state x) (opening (length (entries (state x)) ∷ 0 ∷ 0 ∷ bells) xs (rooted first (state x)))) (sym held)
       (begins state entries maker follows first (state x) itself x bells refl fresh small)))
@@ -187,14 +196,7 @@ module _ {T S E : Type 0} (state : T → S) (entries : S → List E) (maker : E 
       let d : b ≡ length (entries other.me.0.seen.state) = counted' ∙ ap (λ (p : Seat (Option T) (View S E)). length (entries p.me.0.seen.state)) (sym same) in
       is ∙ (ap (λ (n : ℕ). max n b) counted ∙ (ap (λ (n : ℕ). max (length (entries v.seen.state)) n) d ∙ (q ∙ ap (λ (x : Me (Option T) (View S E)). length (entries x.0.seen.state)) (sym (still ∙ both)))))
 
-  -- what the holder of the turn leaves follows what it found, and is as much longer as was counted
-  pub grown_later : (m : Me (Option T) (View S E)) (v : View S E) (t at n : ℕ) (x y : T) (hand : List (ℕ × Option T)) → m ≡ (sees (staged v (Turn t)) (moment at (state x)), hand) → Grows state entries maker follows n x y → follows (state y) m.0.seen.state
-  grown_later m v t at n x y hand e h = subst (λ (z : S). follows (state y) z) (sym (ap (λ (q : Me (Option T) (View S E)). q.0.seen.state) e)) h.later
-
-  pub grown_only : (m : Me (Option T) (View S E)) (v : View S E) (t at : ℕ) (x y : T) (hand : List (ℕ × Option T)) → m ≡ (sees (staged v (Turn t)) (moment at (state x)), hand) → Grows state entries maker follows v.number x y
-      → OnlyMade maker m.0.number (entries m.0.seen.state) (entries (state y))
-  grown_only m v t at x y hand e h = subst (λ (q : Me (Option T) (View S E)). OnlyMade maker q.0.number (entries q.0.seen.state) (entries (state y))) (sym e) h.only
-
+  -- what the holder of the turn leaves is longer than what it found
   pub grown_count : ((s t : S) → follows s t → (more : List E) × (entries s ≡ entries t ++ more)) → (n before after : ℕ) (x y : T) → Grows state entries maker follows n x y
       → before ≡ length (entries (state x)) → after ≡ length (entries (state y)) → before ≤ after
   grown_count grows n before after x y h a b =
@@ -203,17 +205,26 @@ module _ {T S E : Type 0} (state : T → S) (entries : S → List E) (maker : E 
       let m = length-append (entries (state x)) g.0 in
       omega arith
 
-  pub grown_sum : (m : Me (Option T) (View S E)) (v : View S E) (t at before after : ℕ) (x y : T) (hand : List (ℕ × Option T)) → m ≡ (sees (staged v (Turn t)) (moment at (state x)), hand)
+module _ {T U S E : Type 0} (state : T → S) (entries : S → List E) (maker : E → Option ℕ) (follows : S → S → Type 0) where
+  -- what the holder of the turn leaves follows what it found, and is as much longer as was counted
+  pub grown_later : (m : Me (Option U) (View S E)) (v : View S E) (t at n : ℕ) (x y : T) (hand : List (ℕ × Option U)) → m ≡ (sees (staged v (Turn t)) (moment at (state x)), hand) → Grows state entries maker follows n x y → follows (state y) m.0.seen.state
+  grown_later m v t at n x y hand e h = subst (λ (z : S). follows (state y) z) (sym (ap (λ (q : Me (Option U) (View S E)). q.0.seen.state) e)) h.later
+
+  pub grown_only : (m : Me (Option U) (View S E)) (v : View S E) (t at : ℕ) (x y : T) (hand : List (ℕ × Option U)) → m ≡ (sees (staged v (Turn t)) (moment at (state x)), hand) → Grows state entries maker follows v.number x y
+      → OnlyMade maker m.0.number (entries m.0.seen.state) (entries (state y))
+  grown_only m v t at x y hand e h = subst (λ (q : Me (Option U) (View S E)). OnlyMade maker q.0.number (entries q.0.seen.state) (entries (state y))) (sym e) h.only
+
+  pub grown_sum : (m : Me (Option U) (View S E)) (v : View S E) (t at before after : ℕ) (x y : T) (hand : List (ℕ × Option U)) → m ≡ (sees (staged v (Turn t)) (moment at (state x)), hand)
       → before ≡ length (entries (state x)) → after ≡ length (entries (state y)) → before ≤ after → length (entries m.0.seen.state) + (after - before) ≡ length (entries (state y))
   grown_sum m v t at before after x y hand e a b le =
-      let s = ap (λ (q : Me (Option T) (View S E)). length (entries q.0.seen.state)) e in
+      let s = ap (λ (q : Me (Option U) (View S E)). length (entries q.0.seen.state)) e in
       omega arith
 
   -- what a seat knows after its turn
-  pub turn_view : (m m' : Me (Option T) (View S E)) (v : View S E) (t a b : ℕ) (x y : T) (hand hand' : List (ℕ × Option T)) → v.stage ≡ Idle → m ≡ (sees (staged v (Turn t)) (moment a (state x)), hand)
+  pub turn_view : (m m' : Me (Option U) (View S E)) (v : View S E) (t a b : ℕ) (x y : T) (hand hand' : List (ℕ × Option U)) → v.stage ≡ Idle → m ≡ (sees (staged v (Turn t)) (moment a (state x)), hand)
       → m' ≡ (staged (leaves m.0 (moment b (state y)) (made_by maker m.0.number (entries (state y)))) Idle, hand')
       → m'.0 ≡ took_turn v (moment a (state x)) (moment b (state y)) (made_by maker v.number (entries (state y)))
   turn_view m m' v t a b x y hand hand' idle e e' =
-      ap (λ (q : Me (Option T) (View S E)). q.0) e'
-      ∙ (ap (λ (q : Me (Option T) (View S E)). staged (leaves q.0 (moment b (state y)) (made_by maker q.0.number (entries (state y)))) Idle) e
+      ap (λ (q : Me (Option U) (View S E)). q.0) e'
+      ∙ (ap (λ (q : Me (Option U) (View S E)). staged (leaves q.0 (moment b (state y)) (made_by maker q.0.number (entries (state y)))) Idle) e
       ∙ ap (λ (stage : Stage). staged (took_turn v (moment a (state x)) (moment b (state y)) (made_by maker v.number (entries (state y)))) stage) (sym idle))

@@ -4,3 +4,4 @@ pub mod Turns
 pub mod Plays
 pub mod Locks
 pub mod Lists
+pub mod Boxes

@@ -32,12 +32,16 @@ const VALUE: usize = 0;
 // How long a seat that finds the turn taken sleeps before it draws a ticket, in microseconds.
 const REST: u64 = 2_000;
 
-type Place<V> = atomic_table::Seat<Option<V>, View<<V as Counted>::State, <V as Counted>::Entry>>;
+// The value stands on the heap, so that a turn moves its place alone.
+type Place<V> = atomic_table::Seat<
+    Option<Box<V>>,
+    View<<V as Counted>::State, <V as Counted>::Entry>,
+>;
 
 /// A value that seats take turns at. Each call that is handed a seat requires that it is one of this lock.
 #[derive(Drop)]
 pub struct SeatLock<V: Counted> {
-    table: Table<Option<V>, View<V::State, V::Entry>, Origin<V>, Turns, Global>,
+    table: Table<Option<Box<V>>, View<V::State, V::Entry>, Origin<V>, Turns, Global>,
     ghost sized: { (table.shared.table_id.words ≡ 35) × (table.shared.table_id.slots ≡ 1) },
 }
 
@@ -59,30 +63,48 @@ pub struct Seat<V: Counted> {
     ghost tally: { 0 < next → number + 1 + joined ≤ next },
 }
 
-// The one slot of a new table.
-fn first_slot<V>(alloc: Global, value: V) -> Result<Vec<Option<V>>, V>
-    ensures ok { IfOk result (λ slots. slots.items ≡ Some value ∷ []) }
+// The value on the heap.
+fn on_heap<V>(alloc: Global, value: V) -> Result<Box<V>, V>
+    ensures ok { IfOk result (λ boxed. boxed.value ≡ value) }
     ensures err { IfErr result (λ v. v ≡ value) }
 {
+    match Box::new(alloc, value) {
+        Ok(boxed) => Ok(boxed),
+        Err(AllocFailed { value }) => Err(value),
+    }
+}
+
+// The one slot of a new table.
+fn first_slot<V>(alloc: Global, boxed: Box<V>) -> Result<Vec<Option<Box<V>>>, V>
+    ensures ok { IfOk result (λ slots. slots.items ≡ Some boxed ∷ []) }
+    ensures err { IfErr result (λ v. v ≡ boxed.value) }
+{
     let mut slots = Vec::new(alloc);
-    match slots.push(Some(value)) {
+    match slots.push(Some(boxed)) {
         Ok(()) => Ok(slots),
         Err(AllocFailed { value }) => {
             slots.destroy_empty();
-            Err(value.unwrap())
+            Err(Box::into_inner(value.unwrap()))
         }
     }
 }
 
-// The value of a table that was not made.
-fn value_of<V>(refused: Refused<Option<V>, Global>) -> V
-    requires { (v : V) × (refused.slots.items ≡ Some v ∷ []) }
+// What a table has that was not made.
+fn slot_of<T>(refused: Refused<Option<T>, Global>) -> T
+    requires { (v : T) × (refused.slots.items ≡ Some v ∷ []) }
     ensures { refused.slots.items ≡ Some result ∷ [] }
 {
     let Refused { mut slots } = refused;
     let value = slots.pop().unwrap();
     slots.destroy_empty();
     value.unwrap()
+}
+
+// How many entries the value has.
+fn count_of<V: Counted>(boxed: &Box<V>) -> u32
+    ensures { result ≡ length (V.entries (V.state boxed.now.value)) }
+{
+    boxed.count()
 }
 
 // The words of a new table, whose history has so many entries.
@@ -117,7 +139,8 @@ impl<V: Counted> SeatLock<V> {
             start: Snapshot::of(&value),
         };
         let count = value.count();
-        let slots = first_slot(alloc, value)?;
+        let boxed = on_heap(alloc, value)?;
+        let slots = first_slot(alloc, boxed)?;
         match Table::new(alloc, &first_words(count), slots, &about) {
             Ok((table, place)) => {
                 let root = Seat {
@@ -129,7 +152,7 @@ impl<V: Counted> SeatLock<V> {
                 };
                 Ok((SeatLock { table }, root))
             }
-            Err(refused) => Err(value_of(refused)),
+            Err(refused) => Err(Box::into_inner(slot_of(refused))),
         }
     }
 
@@ -169,12 +192,12 @@ impl<V: Counted> SeatLock<V> {
     }
 
     // Waits for the turn, and takes the value.
-    fn take_turn<R: Wait>(&self, rt: &R, place: &mut Place<V>) -> V
+    fn take_turn<R: Wait>(&self, rt: &R, place: &mut Place<V>) -> Box<V>
         requires ours { place.old.table_id ≡ self.now.table.shared.table_id }
         requires idle { (place.old.me.0.live ≡ true) × (place.old.me.0.stage ≡ Idle) × (place.old.me.1 ≡ []) }
         ensures ours { (place.new.table_id ≡ place.old.table_id) × (place.new.id ≡ place.old.id) }
-        ensures next { IsNext V.state V.entries V.maker V.follows place.old.me.0 result }
-        ensures found { (t : ℕ) × (at : ℕ) × (place.new.me ≡ (sees (staged place.old.me.0 (Turn t)) (moment at (V.state result)), (0, None) ∷ [])) }
+        ensures next { IsNext V.state V.entries V.maker V.follows place.old.me.0 result.value }
+        ensures found { (t : ℕ) × (at : ℕ) × (place.new.me ≡ (sees (staged place.old.me.0 (Turn t)) (moment at (V.state result.value)), (0, None) ∷ [])) }
     {
         self.rest(rt);
         let shared = &self.table.shared;
@@ -193,15 +216,15 @@ impl<V: Counted> SeatLock<V> {
     }
 
     // Puts the value back, raises the history by `more` entries and passes the turn.
-    fn end_turn(&self, place: &mut Place<V>, value: V, more: u32)
+    fn end_turn(&self, place: &mut Place<V>, value: Box<V>, more: u32)
         requires ours { place.old.table_id ≡ self.now.table.shared.table_id }
         requires turn { (place.old.me.0.live ≡ true) × ((t : ℕ) × (place.old.me.0.stage ≡ Turn t)) × (place.old.me.1 ≡ (0, None) ∷ []) }
-        requires later { V.follows (V.state value) place.old.me.0.seen.state }
-        requires only { OnlyMade V.maker place.old.me.0.number (V.entries place.old.me.0.seen.state) (V.entries (V.state value)) }
-        requires count { length (V.entries place.old.me.0.seen.state) + more ≡ length (V.entries (V.state value)) }
-        requires fits { length (V.entries (V.state value)) < 2 ^ 32 }
+        requires later { V.follows (V.state value.value) place.old.me.0.seen.state }
+        requires only { OnlyMade V.maker place.old.me.0.number (V.entries place.old.me.0.seen.state) (V.entries (V.state value.value)) }
+        requires count { length (V.entries place.old.me.0.seen.state) + more ≡ length (V.entries (V.state value.value)) }
+        requires fits { length (V.entries (V.state value.value)) < 2 ^ 32 }
         ensures ours { (place.new.table_id ≡ place.old.table_id) × (place.new.id ≡ place.old.id) }
-        ensures left { (at : ℕ) × (place.new.me ≡ (staged (leaves place.old.me.0 (moment at (V.state value)) (made_by V.maker place.old.me.0.number (V.entries (V.state value)))) Idle, [])) }
+        ensures left { (at : ℕ) × (place.new.me ≡ (staged (leaves place.old.me.0 (moment at (V.state value.value)) (made_by V.maker place.old.me.0.number (V.entries (V.state value.value)))) Idle, [])) }
         ensures ordered { IsOrdered V.follows place.new.me.0 }
     {
         let shared = &self.table.shared;
@@ -242,9 +265,9 @@ impl<V: Counted> SeatLock<V> {
         ensures ordered { IsOrdered V.follows (view seat.new) }
     {
         let mut value = self.take_turn(rt, &mut seat.place);
-        let before = value.count();
-        let outcome = f(&mut value);
-        let after = value.count();
+        let before = count_of(&value);
+        let outcome = f(value.as_mut());
+        let after = count_of(&value);
         self.end_turn(&mut seat.place, value, after - before);
         seat.seen = after;
         outcome
@@ -285,7 +308,7 @@ impl<V: Counted> SeatLock<V> {
         let mut closed = table.close_with(root.into_place());
         let value = closed.take(VALUE);
         closed.free();
-        value.unwrap()
+        Box::into_inner(value.unwrap())
     }
 }
 

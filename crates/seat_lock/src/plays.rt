@@ -1,5 +1,6 @@
 // The rule as the table takes it, and what each step tells. These types are for the proofs alone.
 ghost use Rattle.seat_lock.specs.Views.{rooted, split_root, split_off, joined_root, gone};
+ghost use Rattle.seat_lock.specs.Boxes.{in_box};
 ghost use Rattle.seat_lock.specs.Turns.{Kept};
 ghost use Rattle.seat_lock.specs.Plays.{drew, passed, rang, learned, looked, raised};
 
@@ -23,8 +24,8 @@ impl<V> Drop for Origin<V> {
 
 pub struct Turns;
 
-impl<V: Counted> TableRule<Option<V>, View<V::State, V::Entry>, Origin<V>> for Turns {
-    ghost holds = { λ k. Kept V.state V.entries V.maker V.follows k.first (V.state k.start.value) };
+impl<V: Counted> TableRule<Option<Box<V>>, View<V::State, V::Entry>, Origin<V>> for Turns {
+    ghost holds = { λ k. Kept (in_box V.state) V.entries V.maker V.follows k.first (V.state k.start.value) };
 
     ghost first = { λ k. rooted k.first (V.state k.start.value) };
 }
@@ -37,14 +38,14 @@ impl<T, S, E> Play<Option<T>, View<S, E>> for Draw {
 
 pub struct Look;
 
-impl<V: Counted> Play<Option<V>, View<V::State, V::Entry>> for Look {
-    ghost then = { looked V.state V.entries V.maker V.follows };
+impl<V: Counted> Play<Option<Box<V>>, View<V::State, V::Entry>> for Look {
+    ghost then = { looked (in_box V.state) V.entries V.maker V.follows };
 }
 
 pub struct Raise;
 
-impl<V: Counted> Play<Option<V>, View<V::State, V::Entry>> for Raise {
-    ghost then = { raised V.state V.entries V.maker V.follows };
+impl<V: Counted> Play<Option<Box<V>>, View<V::State, V::Entry>> for Raise {
+    ghost then = { raised (in_box V.state) V.entries V.maker V.follows };
 }
 
 pub struct Pass;
@@ -61,7 +62,7 @@ impl<T, S, E> Play<Option<T>, View<S, E>> for Ring {
 
 pub struct Learn;
 
-impl<V: Counted> Play<Option<V>, View<V::State, V::Entry>> for Learn {
+impl<V: Counted> Play<Option<Box<V>>, View<V::State, V::Entry>> for Learn {
     ghost then = { learned V.follows };
 }
 

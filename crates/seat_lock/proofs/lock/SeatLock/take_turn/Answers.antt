@@ -1,6 +1,7 @@
 use Rattle.std.proofs.Common.{◌∙◌, arith}
 use Rattle.seat_lock.proofs.Steps.{draws}
-use Rattle.seat_lock.proofs.Calls.{looks_at, hit_at, miss_at, hit_holds, hit_some, hit_next, hit_found}
+use Rattle.seat_lock.proofs.Calls.{looks_at, hit_at, miss_at, hit_holds, hit_some, hit_next, hit_found, unboxed_next}
+use Rattle.seat_lock.specs.Boxes.{in_box}
 use Rattle.seat_lock.proofs.lock.SeatLock.take_turn.Goals as goal
 
 pub fetch_add-ticket-requires : goal.fetch_add-ticket-requires
@@ -8,7 +9,7 @@ fetch_add-ticket-requires g c =
     let t = g.V.Counted in
     let table = c.args.self.now.table.shared in
     let words = c.args.self.now.sized.0 in
-    (c.requires.ours, omega arith, draws t.state t.entries t.maker t.follows table.key.first (t.state table.key.start.value) table.table_id.slots c.args.place.now.id c.args.place.now.me c.requires.idle.0 c.requires.idle.1)
+    (c.requires.ours, omega arith, draws (in_box t.state) t.entries t.maker t.follows table.key.first (t.state table.key.start.value) table.table_id.slots c.args.place.now.id c.args.place.now.me c.requires.idle.0 c.requires.idle.1)
 
 pub load-served-requires : goal.load-served-requires
 load-served-requires g c =
@@ -19,7 +20,7 @@ load-served-requires g c =
     let place = c.loop.place in (
       kept.0 ∙ c.requires.ours,
       omega arith,
-      looks_at t.state t.entries t.maker t.follows table.key.first (t.state table.key.start.value) table.table_id.slots place.id place.me c.args.place.now.me.0 kept.2.0 kept.2.1 c.requires.idle.0,
+      looks_at (in_box t.state) t.entries t.maker t.follows table.key.first (t.state table.key.start.value) table.table_id.slots place.id place.me c.args.place.now.me.0 kept.2.0 kept.2.1 c.requires.idle.0,
     )
 
 pub exchange-requires : goal.exchange-requires
@@ -28,8 +29,8 @@ exchange-requires g c =
     let kept = c.loop.invariant in
     let seat = c.load-served.new.seat in
     let v = c.args.place.now.me.0 in
-    let hit = hit_at t.state t.entries t.maker t.follows c.loop.place.me seat.me v kept.2.0 c.load-served.result c.fetch_add-ticket.result kept.2.1 kept.2.2 c.if-served-ticket.true c.load-served.ensures.2 in
-    (c.load-served.ensures.0 ∙ (kept.0 ∙ c.requires.ours), hit_holds t.state t.entries t.maker t.follows v kept.2.0 seat.me hit)
+    let hit = hit_at (in_box t.state) t.entries t.maker t.follows c.loop.place.me seat.me v kept.2.0 c.load-served.result c.fetch_add-ticket.result kept.2.1 kept.2.2 c.if-served-ticket.true c.load-served.ensures.2 in
+    (c.load-served.ensures.0 ∙ (kept.0 ∙ c.requires.ours), hit_holds (in_box t.state) t.entries t.maker t.follows v kept.2.0 seat.me hit)
 
 pub unwrap-requires : goal.unwrap-requires
 unwrap-requires g c =
@@ -37,8 +38,8 @@ unwrap-requires g c =
     let kept = c.loop.invariant in
     let seat = c.load-served.new.seat in
     let v = c.args.place.now.me.0 in
-    let hit = hit_at t.state t.entries t.maker t.follows c.loop.place.me seat.me v kept.2.0 c.load-served.result c.fetch_add-ticket.result kept.2.1 kept.2.2 c.if-served-ticket.true c.load-served.ensures.2 in
-    hit_some t.state t.entries t.maker t.follows v kept.2.0 seat.me c.exchange.result hit c.exchange.ensures.2
+    let hit = hit_at (in_box t.state) t.entries t.maker t.follows c.loop.place.me seat.me v kept.2.0 c.load-served.result c.fetch_add-ticket.result kept.2.1 kept.2.2 c.if-served-ticket.true c.load-served.ensures.2 in
+    hit_some (in_box t.state) t.entries t.maker t.follows v kept.2.0 seat.me c.exchange.result hit c.exchange.ensures.2
 
 pub returns-then-served-ticket-clause-next : goal.returns-then-served-ticket-clause-next
 returns-then-served-ticket-clause-next g c =
@@ -46,8 +47,8 @@ returns-then-served-ticket-clause-next g c =
     let kept = c.loop.invariant in
     let seat = c.load-served.new.seat in
     let v = c.args.place.now.me.0 in
-    let hit = hit_at t.state t.entries t.maker t.follows c.loop.place.me seat.me v kept.2.0 c.load-served.result c.fetch_add-ticket.result kept.2.1 kept.2.2 c.if-served-ticket.true c.load-served.ensures.2 in
-    hit_next t.state t.entries t.maker t.follows v kept.2.0 seat.me c.exchange.result c.unwrap.result hit c.exchange.ensures.2 c.unwrap.ensures
+    let hit = hit_at (in_box t.state) t.entries t.maker t.follows c.loop.place.me seat.me v kept.2.0 c.load-served.result c.fetch_add-ticket.result kept.2.1 kept.2.2 c.if-served-ticket.true c.load-served.ensures.2 in
+    unboxed_next t.state t.entries t.maker t.follows v c.unwrap.result (hit_next (in_box t.state) t.entries t.maker t.follows v kept.2.0 seat.me c.exchange.result c.unwrap.result hit c.exchange.ensures.2 c.unwrap.ensures)
 
 pub returns-then-served-ticket-clause-found : goal.returns-then-served-ticket-clause-found
 returns-then-served-ticket-clause-found g c =
@@ -55,8 +56,8 @@ returns-then-served-ticket-clause-found g c =
     let kept = c.loop.invariant in
     let seat = c.load-served.new.seat in
     let v = c.args.place.now.me.0 in
-    let hit = hit_at t.state t.entries t.maker t.follows c.loop.place.me seat.me v kept.2.0 c.load-served.result c.fetch_add-ticket.result kept.2.1 kept.2.2 c.if-served-ticket.true c.load-served.ensures.2 in
-    hit_found t.state t.entries t.maker t.follows v kept.2.0 seat.me c.exchange.new.seat.me c.exchange.result c.unwrap.result hit c.exchange.ensures.2 c.unwrap.ensures c.exchange.ensures.3
+    let hit = hit_at (in_box t.state) t.entries t.maker t.follows c.loop.place.me seat.me v kept.2.0 c.load-served.result c.fetch_add-ticket.result kept.2.1 kept.2.2 c.if-served-ticket.true c.load-served.ensures.2 in
+    hit_found (in_box t.state) t.entries t.maker t.follows v kept.2.0 seat.me c.exchange.new.seat.me c.exchange.result c.unwrap.result hit c.exchange.ensures.2 c.unwrap.ensures c.exchange.ensures.3
 
 pub loop-preserved : goal.loop-preserved
 loop-preserved g c =
@@ -67,7 +68,7 @@ loop-preserved g c =
       c.load-served.ensures.1 ∙ kept.1,
       (
         kept.2.0,
-        miss_at t.state t.entries t.maker t.follows c.loop.place.me c.load-served.new.seat.me v kept.2.0 c.load-served.result c.fetch_add-ticket.result kept.2.1 kept.2.2 c.if-served-ticket.false c.load-served.ensures.2,
+        miss_at (in_box t.state) t.entries t.maker t.follows c.loop.place.me c.load-served.new.seat.me v kept.2.0 c.load-served.result c.fetch_add-ticket.result kept.2.1 kept.2.2 c.if-served-ticket.false c.load-served.ensures.2,
         kept.2.2,
       ),
     )
