@@ -300,7 +300,7 @@ ran_laneless first last now lanes outs fed none h =
     let later = h.has.later in
     record {
       has = record {
-        later = record { history = later.history; dated = later.dated; payloads = later.payloads; faults = later.faults; cause = later.cause; down = later.down; lanes = omega (arith, none); key = later.key };
+        later = record { history = later.history; dated = later.dated; payloads = later.payloads; grown = later.grown; faults = later.faults; cause = later.cause; down = later.down; lanes = omega (arith, none); key = later.key };
         legal = h.has.legal;
         cause = h.has.cause;
         fresh = h.has.fresh;

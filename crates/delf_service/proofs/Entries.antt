@@ -8,7 +8,6 @@ use Rattle.delf_model.specs.declared.entry.Entry.{Entry}
 use Rattle.delf_model.specs.declared.entry.What.{What}
 use Rattle.delf_model.specs.Payloads.{Payloads, payloads_after}
 use Rattle.store_laws.specs.Stores.{digest}
-use Rattle.seat_lock.specs.Lists.{StartsWith-itself}
 use Rattle.seat_lock.specs.Views.{made_by, is_maker}
 use Rattle.delf_service.specs.declared.standing.Standing.{Standing}
 use Rattle.delf_service.specs.Calls.{entry_in, with_entry, Falls}
@@ -58,6 +57,7 @@ module _ (x : Standing) where
     dated = λ m same. fits_push (IsDated x.key.rules m) x.history (entry_in x now what)
         (subst (λ (n : ℕ). IsDated x.key.rules n x.history (entry_in x now what)) (sym (is m same)) refl);
     payloads = λ plain. subst (λ (p : Payloads). KeepsPayloads x.history p (payloads_of x)) (sym (grown plain)) (keeps_push x (entry_in x now what) given);
+    grown = λ plain. (given, grown plain);
     faults = omega arith;
     cause = λ down. inl down;
     down = λ down. absurd (cc (up, down));
@@ -67,9 +67,10 @@ module _ (x : Standing) where
 
   pub falls_follows : (y : Standing) → Falls x y → Follows y x
   falls_follows y falls = subst (λ (z : Standing). Follows z x) (sym falls.left) (record {
-    history = StartsWith-itself x.history;
+    history = ([], sym (append-nil x.history));
     dated = λ m same. fits_itself (IsDated x.key.rules m) x.history;
     payloads = λ plain. keeps_itself x.history (payloads_of x);
+    grown = λ plain. refl;
     faults = falls.later;
     cause = λ down. inr falls.rose;
     down = λ down. absurd (cc (falls.up, down));
@@ -86,9 +87,10 @@ module _ (x : Standing) where
   -- fewer lanes are left
   pub fewer_follows : (n : ℕ) → n ≤ x.lanes → Follows (with_lanes x n) x
   fewer_follows n le = record {
-    history = StartsWith-itself x.history;
+    history = ([], sym (append-nil x.history));
     dated = λ m same. fits_itself (IsDated x.key.rules m) x.history;
     payloads = λ plain. keeps_itself x.history (payloads_of x);
+    grown = λ plain. refl;
     faults = omega arith;
     cause = λ down. inl down;
     down = λ down. (down, refl);

@@ -1,6 +1,6 @@
 -- The replies of a lane: one more, and in each later standing.
 use Rattle.std.proofs.Common.{◌≡◌, ℕ, suc, ◌<◌, ◌≤◌, Bool, true, false, List, [], ◌∷◌, ◌++◌, length, Option, Some, None, Result, Ok, Err, refl, sym, ap, ◌∙◌, subst, arith, ⊎_elim, inr, append_assoc, append-nil, length-append}
-use Rattle.std.specs.Prelude.{◌↔◌, IfOk, IsTrue, slice_get, take}
+use Rattle.std.specs.Prelude.{◌↔◌, IfNone, IfOk, IsTrue, slice_get, take}
 use Rattle.std.specs.Result.{result_ok}
 use Rattle.std.specs.List.{Contains}
 use Rattle.delf_model.specs.declared.call.Call.{Call}
@@ -207,6 +207,11 @@ module _ (v w : SeatView) (now : ℕ) where
 
   pub ask_stops : (id : ℕ) (bytes : List ℕ) (asked : Asked) → Inquired v w id bytes asked → w.made ≡ v.made → Stops v w
   ask_stops id bytes asked h made = record { later = ask_follows id bytes asked h; keeps = h.turn.keeps; made_is = made; leaves = ask_leaves id bytes asked h }
+
+-- what holds in any case holds where there is nothing
+pub if_none : {A : Type 0} (o : Option A) (P : Type 0) → P → IfNone o P
+if_none None P p = p
+if_none (Some x) P p = tt
 
 -- the bytes that were copied
 pub read_is : {E : Type 0} (r : Result (List ℕ) E) (payload front : List ℕ) → result_ok r ≡ Some payload → IfOk r (λ b. b ≡ front) → payload ≡ front

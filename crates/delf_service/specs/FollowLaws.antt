@@ -1,18 +1,22 @@
 -- The three laws of what may come after a standing.
-use Rattle.std.proofs.Common.{◌≡◌, ℕ, zero, suc, ◌<◌, ◌≤◌, List, [], ◌∷◌, ◌++◌, length, take, refl, sym, ap, ◌∙◌, subst, arith, length-append, ⊎_elim, inl, inr}
+use Rattle.std.proofs.Common.{◌≡◌, ℕ, zero, suc, ◌<◌, ◌≤◌, List, [], ◌∷◌, ◌++◌, length, take, refl, sym, ap, ◌∙◌, subst, arith, length-append, append-nil, append_assoc, ⊎_elim, inl, inr}
 use Rattle.std.specs.Prelude.{slice_get}
 use Rattle.std.proofs.lemmas.Option.{slice_get_past}
 use Rattle.std.proofs.lemmas.List.{take-append-le}
 use Rattle.std.proofs.lemmas.Bool.{cases_lt}
 use Rattle.delf_disk.specs.Causes.{Rose}
 use Rattle.delf_model.specs.declared.entry.Entry.{Entry}
-use Rattle.delf_model.specs.Payloads.{Payloads}
+use Rattle.delf_model.specs.Payloads.{Payloads, payloads_after}
 use Rattle.delf_model.specs.RuleSet.{RuleSet}
+use Rattle.delf_model.specs.State.{State, start}
+use Rattle.delf_model.specs.Step.{step, run, after}
+use Rattle.delf_model.proofs.Runs.{run-append}
+use Rattle.store_laws.specs.Stores.{digest}
 use Rattle.seat_lock.specs.Lists.{StartsWith, StartsWith-itself, StartsWith-chain}
 use Rattle.delf_service.specs.declared.standing.Key.{Key}
 use Rattle.delf_service.specs.declared.standing.Standing.{Standing}
-use Rattle.delf_service.specs.Follows.{FitsFrom, IsDated, KeepsPayloads, Follows}
-use Rattle.delf_service.specs.Standings.{IsPlain, payloads_of}
+use Rattle.delf_service.specs.Follows.{FitsFrom, IsDated, KeepsPayloads, LeadTo, Follows}
+use Rattle.delf_service.specs.Standings.{IsPlain, payloads_of, state_at}
 
 module _ {A : Type 0} where
   pub get_first : (xs ys : List A) (k : ℕ) → k < length xs → slice_get (xs ++ ys) k ≡ slice_get xs k
@@ -46,11 +50,23 @@ keeps_chain long short a b c starts now before = record {
   seals = StartsWith-chain a.seals b.seals c.seals now.seals before.seals;
 }
 
+-- entries behind others lead on from their payloads
+pub lead_chain : (s : State) (es fs : List Entry) (a b c : Payloads) → LeadTo s es a b → LeadTo (run s es) fs b c → LeadTo s (es ++ fs) a c
+lead_chain s [] fs a b c first then = subst (λ (x : Payloads). LeadTo s fs x c) first then
+lead_chain s (e ∷ es) fs a b c first then = (first.0, lead_chain (step s e) es fs (payloads_after digest s e first.0 a) b c first.1 then)
+
+-- the state of a later standing is the one behind its entries
+pub later_state : (t u : Standing) (key : t.key ≡ u.key) (starts : StartsWith t.history u.history) → state_at t ≡ run (state_at u) starts.0
+later_state t u key starts =
+    ap (λ (k : Key). after k.rules t.history) key ∙
+    (ap (λ (h : List Entry). after u.key.rules h) starts.1 ∙ run-append (start u.key.rules) u.history starts.0)
+
 pub Follows-itself : (s : Standing) → Follows s s
 Follows-itself s = record {
-  history = StartsWith-itself s.history;
+  history = ([], sym (append-nil s.history));
   dated = λ now same. fits_itself (IsDated s.key.rules now) s.history;
   payloads = λ plain. keeps_itself s.history (payloads_of s);
+  grown = λ plain. refl;
   faults = omega arith;
   cause = λ down. inl down;
   down = λ down. (down, refl);
@@ -66,12 +82,15 @@ rose_on a b c le rose = omega (arith, le, rose)
 
 pub Follows-chain : (s t u : Standing) → Follows s t → Follows t u → Follows s u
 Follows-chain s t u p q = record {
-  history = StartsWith-chain s.history t.history u.history p.history q.history;
+  history = (q.history.0 ++ p.history.0, p.history.1 ∙ (ap (λ (es : List Entry). es ++ p.history.0) q.history.1 ∙ append_assoc u.history q.history.0 p.history.0));
   dated = λ now same. fits_chain (IsDated s.key.rules now) (length u.history) s.history t.history p.history (p.dated now same)
       (subst (λ (rules : RuleSet). FitsFrom (IsDated rules now) (length u.history) t.history) (sym (ap (λ (k : Key). k.rules) p.key))
       (q.dated now (sym (ap (λ (k : Key). k.moment) p.key) ∙ same)));
   payloads = λ plain. keeps_chain t.history u.history (payloads_of s) (payloads_of t) (payloads_of u) q.history (p.payloads plain)
       (q.payloads (subst (λ (k : Key). IsPlain k) p.key plain));
+  grown = λ plain. lead_chain (state_at u) q.history.0 p.history.0 (payloads_of u) (payloads_of t) (payloads_of s)
+      (q.grown (subst (λ (k : Key). IsPlain k) p.key plain))
+      (subst (λ (x : State). LeadTo x p.history.0 (payloads_of t) (payloads_of s)) (later_state t u q.key q.history) (p.grown plain));
   faults = let a = p.faults in let b = q.faults in omega (arith, a, b);
   cause = λ down. ⊎_elim
       (λ before. ⊎_elim (λ first. inl first) (λ rose. inr (rose_on u.faults t.faults s.faults p.faults rose)) (q.cause before))
