@@ -2,7 +2,7 @@
 use Rattle.std.proofs.Common.{◌≡◌, ℕ, Bool, true, false, cond, List, [], ◌∷◌, length, refl, sym, ap, subst, ◌∙◌, arith}
 use Rattle.std.proofs.lemmas.Bool.{eq-eqb, cond-false, false≢true}
 use Rattle.std.proofs.lemmas.List.Elements.{All-contains, All-contains_itself, All-filter, All-from_recursion, Contains-push}
-use Rattle.std.specs.Prelude.{filter}
+use Rattle.std.specs.Prelude.{Option, Some, None, filter, find}
 use Rattle.std.specs.List.{All, AllByRecursion, Contains}
 use Rattle.delf_model.specs.State.{State}
 use Rattle.delf_model.specs.Payloads.{Payloads, is_needed, is_at, payload_at}
@@ -43,3 +43,15 @@ module _ (s t : State) (d e : Payloads) (p : ℕ) (old : ArePaired s d) (now : A
 
   pub kept_bytes : payload_at e p ≡ payload_at d p
   kept_bytes = same_bytes s t d e p old now was_needed needed stood
+
+-- what is not needed has no pair
+
+none_found : {A : Type 0} (keep : A → Bool) (xs : List A) → filter keep xs ≡ [] → find keep xs ≡ None
+none_found keep [] none = refl
+none_found {A = A} keep (x ∷ xs) none =
+    let it = at_none (keep x) x (filter keep xs) none in
+    cond-false (keep x) (Some x) (find keep xs) it.0 ∙ none_found keep xs it.1
+
+pub no_other : (s : State) (e : Payloads) → ArePaired s e → (p : ℕ) → is_needed s p ≡ false → find (is_at p) e.bytes ≡ None
+no_other s e paired p unneeded =
+    none_found (is_at p) e.bytes (paired p ∙ cond-false (is_needed s p) ((p, payload_at e p) ∷ []) [] unneeded)

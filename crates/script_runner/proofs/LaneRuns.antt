@@ -54,7 +54,7 @@ use Rattle.script_runner.specs.Serial as serial
 use Rattle.script_runner.specs.Serial.{refused_down}
 use Rattle.script_runner.specs.Standing.{Falls, Carried, HaltedAt}
 use Rattle.script_runner.specs.Worlds.{World, StandsOn, IsHeld, world_of}
-use Rattle.script_runner.proofs.Kept.{kept_bytes}
+use Rattle.script_runner.proofs.Kept.{kept_bytes, no_other}
 use Rattle.script_runner.proofs.Keeping.{object_if}
 use Rattle.script_runner.proofs.Numbered.{rules_after, numbered_after}
 use Rattle.script_runner.proofs.Refusals.{reply_numbered}
@@ -288,6 +288,8 @@ module _ {G R : Type 0} (d : Ghosts R) (schema : Schema) (quiet : Bool) (workers
       shows_first = shows_old e plain same;
       shows_final = shows_now (plain_now has plain);
       kept = kept_payloads e plain same has paired paired_now;
+      alone_first = no_other (state_in old) old.payloads paired;
+      alone = no_other (state_in now) now.payloads paired_now;
       outs = outs;
       has = has;
       block = block;

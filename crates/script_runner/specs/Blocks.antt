@@ -1,5 +1,5 @@
 -- A block: lanes that run at once, from a world to the next one, and their lines.
-use Rattle.std.specs.Prelude.{◌≡◌, ◌<◌, ◌≤◌, ℕ, ◌+◌, Bool, true, false, not, Option, Some, None, Result, Ok, Err, List, [], ◌∷◌, ◌++◌, IfOk, IsSomeAnd, length, is_ok, slice_get, flat_map}
+use Rattle.std.specs.Prelude.{◌≡◌, ◌<◌, ◌≤◌, ℕ, ◌+◌, Bool, true, false, not, Option, Some, None, Result, Ok, Err, List, [], ◌∷◌, ◌++◌, IfOk, IsSomeAnd, length, is_ok, slice_get, flat_map, find}
 use Rattle.std.specs.Borrow.{Bor}
 use Rattle.std.specs.List.{filter}
 use Rattle.delf_disk.specs.declared.disk.Disk.{Ghosts}
@@ -24,8 +24,9 @@ use Rattle.delf_service.specs.declared.standing.Standing.{Standing}
 use Rattle.delf_service.specs.Blocks.{HasLanes, AreToldLanes, IsBlock}
 use Rattle.delf_service.specs.Lanes.{HasCommand, IsStarved}
 use Rattle.delf_service.specs.Rows.{commands_at}
-use Rattle.delf_service.specs.Standings.{IsPlain, payloads_of, standing_of}
-use Rattle.delf_model.specs.Payloads.{is_needed, payload_at}
+use Rattle.delf_service.specs.Standings.{IsPlain, payloads_of, standing_of, state_at}
+use Rattle.delf_model.specs.Payloads.{Payloads, is_at, is_needed, payload_at}
+use Rattle.delf_model.specs.State.{State}
 use Rattle.opening_laws.specs.Entries.{SamePayloads}
 use Rattle.job_report.specs.Texts.{refusal_text, down_text, found_text, absent_text, lane_text, par_text}
 use Rattle.documents.specs.Names.{kind_name}
@@ -71,6 +72,10 @@ pub record Shows (s : Standing) (w : World) (faults : ℕ) : Type 0 where
   pub lanes : s.lanes ≡ 0
   pub count : s.faults ≡ faults
   pub plain : IsPlain s.key
+
+-- no position that is not needed has a payload
+abbrev pub HasNoOther : State → Payloads → Type 0
+HasNoOther s e = (p : ℕ) → is_needed s p ≡ false → find (is_at p) e.bytes ≡ None
 
 -- the line of a reply, at the length of the history that it found
 
@@ -135,7 +140,7 @@ AreFed outs = (place : ℕ) (out : LaneOut) → slice_get outs place ≡ Some ou
 
 -- The lanes of a block were run from a world that is up. The history of the next world begins with the world's and is legal,
 -- each entry behind it has the moment of its place, and is a step or an accepted call of one lane. Each of the world's positions
--- that is still needed has the payload that it had, and each accepted call brought its own. Each lane has the replies of the book to all its commands,
+-- that is still needed has the payload that it had, and each accepted call brought its own; no position that is not needed has any. Each lane has the replies of the book to all its commands,
 -- each at its length, and its accepted calls stand in their order. While the next world is up no step is left, or the first is
 -- one that would put back a damaged item; it is down only where the count of faults rose.
 pub record RunsLanes (schema : Schema) (w : World) (quiet : Bool) (lanes : List Lane) (before now : ℕ) (text : List ℕ) (next : World) : Type 0 where
@@ -145,6 +150,8 @@ pub record RunsLanes (schema : Schema) (w : World) (quiet : Bool) (lanes : List 
   pub shows_first : Shows first w before
   pub shows_final : Shows final next now
   pub kept : (p : ℕ) → p < length w.history → is_needed (state_of next) p ≡ true → payload_at next.payloads p ≡ payload_at w.payloads p
+  pub alone_first : HasNoOther (state_at first) (payloads_of first)
+  pub alone : HasNoOther (state_of next) next.payloads
   pub outs : List LaneOut
   pub has : HasLanes first final (length lanes)
   pub block : IsBlock first final w.clock lanes outs
