@@ -83,7 +83,7 @@ found_first rules moment c w opens =
 
 -- seals of a store that stood whole
 
-same_sealed_in : (rules : RuleSet) (h : List Entry) (d e : Payloads) → SamePayloads d e → AreSealed rules h d → AreSealed rules h e
+pub same_sealed_in : (rules : RuleSet) (h : List Entry) (d e : Payloads) → SamePayloads d e → AreSealed rules h d → AreSealed rules h e
 same_sealed_in rules h d e same sealed p i needed at =
     ap (λ (l : List (List ℕ)). slice_get l i) (sym same.seals) ∙ (sealed p i needed at ∙ ap (λ (l : List ℕ). Some (digest l)) (same.bytes p))
 

@@ -9,3 +9,4 @@ pub mod Same
 pub mod Keeping
 pub mod Finding
 pub mod Headline
+pub mod LaneGiven

@@ -62,7 +62,8 @@ move_goes_on schema known w next (Runs quiet workers turns lanes before now text
   history = block_history schema w next quiet lanes before now text runs;
 }
 
-all_known : (commands : List Command) → AllByRecursion (λ (command : Command). Unit {0}) commands
+-- nothing need be known of the commands
+pub all_known : (commands : List Command) → AllByRecursion (λ (command : Command). Unit {0}) commands
 all_known [] = tt
 all_known (command ∷ more) = (tt, all_known more)
 
