@@ -1,5 +1,5 @@
 -- What an entry, a claim more and a claim less leave of the claims.
-use Rattle.std.proofs.Common.{◌≡◌, ℕ, zero, suc, ◌+◌, ◌<◌, ◌≤◌, Bool, true, false, cond, ◌||◌, List, [], ◌∷◌, ◌++◌, length, get_or, Some, None, refl, sym, ap, ◌∙◌, subst, arith, eqb}
+use Rattle.std.proofs.Common.{◌≡◌, ℕ, zero, suc, ◌+◌, ◌<◌, ◌≤◌, Bool, true, false, cond, List, [], ◌∷◌, ◌++◌, length, get_or, Some, None, refl, sym, ap, ◌∙◌, subst, arith, eqb}
 use Rattle.std.proofs.lemmas.Bool.{or_parts, or_from, or_left, or_right, eqb-true, false≢true}
 use Rattle.std.specs.Prelude.{Contains, slice_index_or}
 use Rattle.std.specs.List.{AllByRecursion, remove, position}
@@ -15,14 +15,13 @@ use Rattle.delf_model.specs.State.{State, position_of}
 use Rattle.delf_model.specs.Step.{step, after}
 use Rattle.delf_model.specs.Owners.{key_of}
 use Rattle.delf_model.specs.Legal.{Legal, is_legal}
-use Rattle.delf_model.specs.Room.{greatest_moment}
 use Rattle.delf_model.specs.Order.{erases_same, is_held}
 use Rattle.delf_model.specs.declared.rows.Item.{Item}
 use Rattle.delf_model.specs.declared.rows.Item.TheVariants as item
 use Rattle.delf_model.specs.Payloads.{Payloads, Journal, is_needed, payload_at, payloads_after}
 use Rattle.delf_model.proofs.Good.{good_after}
 use Rattle.delf_model.proofs.Graphs.{same_key_is}
-use Rattle.delf_model.proofs.Runs.{after_push, Legal_push}
+use Rattle.delf_model.proofs.Runs.{after_push}
 use Rattle.payload_laws.proofs.Moves.{payloads_held}
 use Rattle.job_table.specs.Table.{given_up}
 use Rattle.job_table.proofs.Places.{position_none}
@@ -34,7 +33,7 @@ use Rattle.payload_laws.specs.Holders.{scrubbed_by}
 use Rattle.store_laws.specs.Stores.{digest, payload_in, journal_of, vault_of}
 use Rattle.store_laws.specs.Moves.{RestIn}
 use Rattle.store_laws.proofs.Carry.{payload_kept}
-use Rattle.ledger.specs.Held.{AreHeld, MayBeHeld}
+use Rattle.ledger.specs.Held.{AreHeld}
 use Rattle.ledger.proofs.Holding.{erases_same_sym, is_erasing_of}
 use Rattle.gate_log.specs.View.{LogView}
 use Rattle.delf_book.specs.Keeping.{HasRoom, payloads_in}

@@ -12,6 +12,7 @@ pub mod Halts
 pub mod Held
 pub mod Lives
 pub mod Making
+pub mod Owned
 pub mod Paired
 pub mod Payloads
 pub mod Plainly

@@ -2,17 +2,10 @@
 use Rattle.std.proofs.Common.{◌≡◌, ℕ, true, false, List, [], ◌∷◌, ◌++◌, Some, sym, ap, ◌∙◌, subst}
 use Rattle.std.proofs.lemmas.Bool.{and_parts}
 use Rattle.std.proofs.lemmas.Option.{same_Some}
-use Rattle.delf_disk.specs.Areas.{Areas}
 use Rattle.delf_model.specs.declared.entry.Entry.{Entry}
 use Rattle.delf_model.specs.declared.entry.What.{What}
-use Rattle.delf_model.specs.RuleSet.{RuleSet}
-use Rattle.delf_model.specs.Step.{after}
-use Rattle.delf_model.specs.Legal.{Legal, is_legal}
+use Rattle.delf_model.specs.Legal.{is_legal}
 use Rattle.delf_model.specs.Order.{is_step, is_legal_step, is_held}
-use Rattle.delf_model.specs.Payloads.{Payloads, payloads_after}
-use Rattle.store_laws.specs.Stores.{digest, AreSealed, journal_of, vault_of}
-use Rattle.store_laws.specs.Moves.{RestIn}
-use Rattle.store_laws.proofs.Sealed.{sealed_on}
 use Rattle.delf_book.specs.Parts.{Interrupted}
 use Rattle.delf_book.specs.Begun.{MayBegin}
 use Rattle.delf_book.specs.Books.{Booked, state_in}
@@ -53,8 +46,3 @@ module _ {G R : Type 0} (view book : Booked G R) (is : view ≡ book) (entry : E
   made_free held spare capacity keeps may =
       subst (λ (l : List What). is_held l entry.what ≡ false) (sym keeps.steps)
       (subst (λ (b : Booked G R). is_held (steps_of b.held) entry.what ≡ false) (sym is) may.free.1)
-
--- what was sealed stays sealed
-pub made_seals : (rules : RuleSet) (h : List Entry) (e : Payloads) (entry : Entry) (seen : Areas) (images : Areas → Type 0) → images seen → Legal rules h →
-    is_legal (after rules h) entry ≡ true → RestIn rules h e images → AreSealed rules h e → AreSealed rules (h ++ entry ∷ []) (payloads_after digest (after rules h) entry [] e)
-made_seals rules h e entry seen images image legal line rests whole = sealed_on rules h e entry [] (journal_of seen) (vault_of seen) legal line (rests seen image).1 whole

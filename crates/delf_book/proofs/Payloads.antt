@@ -10,7 +10,7 @@ use Rattle.delf_disk.specs.declared.area.Order.{Order}
 use Rattle.gate_log.specs.Records.{Record}
 use Rattle.delf_model.specs.declared.entry.Entry.{Entry}
 use Rattle.delf_model.specs.declared.entry.What.{What}
-use Rattle.delf_model.specs.declared.entry.What.TheVariants.{Create, Update, Link, Unlink, Delete, Restore, Expire, Cut, Erase, Put, Purge}
+use Rattle.delf_model.specs.declared.entry.What.TheVariants.{Create, Update, Link}
 use Rattle.delf_model.specs.RuleSet.{RuleSet}
 use Rattle.delf_model.specs.State.{State}
 use Rattle.delf_model.specs.Step.{step, after}

@@ -1,5 +1,5 @@
 -- Seals of a store that stands whole.
-use Rattle.std.proofs.Common.{◌≡◌, ℕ, true, List, sym, ◌∙◌}
+use Rattle.std.proofs.Common.{◌≡◌, ℕ, true, List, [], ◌∷◌, ◌++◌, sym, ◌∙◌}
 use Rattle.std.proofs.lemmas.Option.{same_Some}
 use Rattle.delf_disk.specs.Areas.{Areas}
 use Rattle.delf_model.specs.declared.entry.Entry.{Entry}
@@ -7,19 +7,18 @@ use Rattle.delf_model.specs.RuleSet.{RuleSet}
 use Rattle.delf_model.specs.State.{position_of}
 use Rattle.delf_model.specs.Step.{after}
 use Rattle.delf_model.specs.Legal.{Legal, is_legal}
-use Rattle.delf_model.specs.Payloads.{Payloads, payload_at}
+use Rattle.delf_model.specs.Payloads.{Payloads, payload_at, payloads_after}
 use Rattle.store_laws.specs.Stores.{digest, AreSealed, journal_of, vault_of}
+use Rattle.store_laws.specs.Moves.{RestIn}
 use Rattle.store_laws.proofs.Sealed.{sealed_on}
-use Rattle.delf_book.specs.Seals.{SealsStay}
 use Rattle.delf_book.specs.Steps.{TellsDamage}
 use Rattle.delf_book.specs.Stepping.{PutsBackItem}
 use Rattle.delf_book.proofs.GoesBack.{waits_put}
 
--- an image that reads holds the payloads
-pub seals_stay : {R : Type 0} (may_leave : R → Areas → Type 0) (rules : RuleSet) (h : List Entry) (entry : Entry) (given : List ℕ) (old : R) (seen : Areas) → may_leave old seen →
-    Legal rules h → is_legal (after rules h) entry ≡ true → SealsStay may_leave rules h entry given old
-seals_stay may_leave rules h entry given old seen image legal line = λ e rests whole.
-    sealed_on rules h e entry given (journal_of seen) (vault_of seen) legal line (rests seen image).1 whole
+-- what was sealed stays sealed: an image that reads holds the payloads
+pub stays_sealed : (rules : RuleSet) (h : List Entry) (e : Payloads) (entry : Entry) (given : List ℕ) (seen : Areas) (images : Areas → Type 0) → images seen → Legal rules h →
+    is_legal (after rules h) entry ≡ true → RestIn rules h e images → AreSealed rules h e → AreSealed rules (h ++ entry ∷ []) (payloads_after digest (after rules h) entry given e)
+stays_sealed rules h e entry given seen images image legal line rests whole = sealed_on rules h e entry given (journal_of seen) (vault_of seen) legal line (rests seen image).1 whole
 
 -- what was sealed is not damaged
 pub whole_undamaged : (rules : RuleSet) (h : List Entry) (entry : Entry) (e : Payloads) (item : ℕ) (stored found : List ℕ) → Legal rules h → is_legal (after rules h) entry ≡ true →

@@ -1,23 +1,18 @@
 -- What `begin` and `finish` answer, and what they leave.
 use Rattle.std.specs.Prelude.{◌≡◌, ◌≢◌, ℕ, ◌+◌, ◌<◌, ◌≤◌, true, false, List, [], ◌∷◌, ◌++◌, Some, None, Option, Result, Ok, Err, length, cond}
 use Rattle.delf_disk.specs.Areas.{Areas}
-use Rattle.delf_disk.specs.Images.{Same}
-use Rattle.delf_disk.specs.Moments.{Runs, Leaves}
-use Rattle.delf_model.specs.declared.entry.Entry.{Entry}
 use Rattle.delf_model.specs.declared.entry.What.{What}
-use Rattle.delf_model.specs.State.{State, Logged}
+use Rattle.delf_model.specs.State.{Logged}
 use Rattle.delf_model.specs.Order.{first_step}
-use Rattle.delf_model.specs.Payloads.{Payloads, payloads_after}
-use Rattle.store_laws.specs.Stores.{digest, AreSealed}
-use Rattle.store_laws.specs.Moves.{RestIn}
+use Rattle.store_laws.specs.Stores.{AreSealed}
 use Rattle.held_laws.specs.Held.{takes_row}
 use Rattle.job_table.specs.Next.{NoneLegal, AllHeld, IsFree}
 use Rattle.delete_step.specs.Claims.{ClaimView}
 use Rattle.delf_book.specs.Parts.{Interrupted}
-use Rattle.delf_book.specs.Books.{Booked, state_in, is_reserved, Grew, PayloadsGrew, Stayed, Fell, WasDown, IsCrashSafe, IsDurable}
+use Rattle.delf_book.specs.Books.{Booked, state_in, is_reserved, Grew, PayloadsGrew, Stayed, Fell, WasDown, LeavesEntry, RestsLonger, OnlyReads}
 use Rattle.delf_book.specs.Claims.{step_of, steps_of, released, IsLogged, IsRead}
 use Rattle.delf_book.specs.Steps.{step_entry, TakesRoom, PutsItem, PutsSealed, TellsDamage}
-use Rattle.delf_book.specs.Writing.{Rests}
+use Rattle.delf_book.specs.Seals.{StaysSealed}
 use Rattle.delf_book.specs.declared.answers.Begun.{Begun}
 use Rattle.delf_book.specs.declared.answers.Begun.TheVariants as begun
 use Rattle.delf_book.specs.declared.answers.StepFault.{StepFault}
@@ -114,24 +109,13 @@ BeginTakesRoom old now moment (Ok (begun.Idle len)) = Unit {0}
 BeginTakesRoom old now moment (Ok (begun.Held n len)) = Unit {0}
 BeginTakesRoom old now moment (Err fault) = Unit {0}
 
--- nothing was written: each image since the start holds the history and its payloads
-abbrev pub LeavesAlone : {G R : Type 0} → (R → ℕ) → (R → Areas → Type 0) → (R → ℕ → Areas → Type 0) → Booked G R → Booked G R → Type 0
-LeavesAlone at may_leave left_since old now =
-    (e : Payloads) → RestIn old.rules old.history e (may_leave old.rig) → Leaves at may_leave left_since (Rests old.rules old.history e) old.rig now.rig
-
 -- where a row is claimed, the areas read as before, and each image since the start is one of before
 abbrev pub ClaimOnlyReads : {R : Type 0} → (R → Areas) → (R → ℕ) → (R → Areas → Type 0) → (R → ℕ → Areas → Type 0) → R → R → Result Begun StepFault → Type 0
 ClaimOnlyReads seen at may_leave left_since old now (Ok (begun.Stepped position)) = Unit {0}
-ClaimOnlyReads seen at may_leave left_since old now (Ok (begun.Claimed claim)) = (seen now ≡ seen old) × Runs at may_leave left_since Same old now
+ClaimOnlyReads seen at may_leave left_since old now (Ok (begun.Claimed claim)) = (seen now ≡ seen old) × OnlyReads at may_leave left_since old now
 ClaimOnlyReads seen at may_leave left_since old now (Ok (begun.Idle len)) = Unit {0}
 ClaimOnlyReads seen at may_leave left_since old now (Ok (begun.Held n len)) = Unit {0}
 ClaimOnlyReads seen at may_leave left_since old now (Err fault) = Unit {0}
-
--- where each payload of the restoration log is the one that was sealed, so it is with this entry more
-abbrev pub StaysSealed : {G R : Type 0} → Booked G R → Entry → Type 0
-StaysSealed old entry =
-    AreSealed old.rules old.history old.payloads →
-    AreSealed old.rules (old.history ++ entry ∷ []) (payloads_after digest (state_in old) entry [] old.payloads)
 
 -- what stands of the payloads: a step that is made brings none, and puts back what was sealed; a claim has the payload that
 -- stands; and a damaged item is told by the two digests
@@ -152,31 +136,31 @@ BeginPayloads old now moment (Err (fault.Damaged item stored found)) = TellsDama
 abbrev pub BeginIsSafe : {G R : Type 0} → (R → ℕ) → (R → Areas → Type 0) → (R → ℕ → Areas → Type 0) → Booked G R → Booked G R → ℕ → Result Begun StepFault → Type 0
 BeginIsSafe at may_leave left_since old now moment (Ok (begun.Stepped position)) =
     (what : What) → now.history ≡ old.history ++ step_entry moment what ∷ [] →
-    IsCrashSafe at may_leave left_since old.rules old.history (step_entry moment what) [] old.rig now.rig ×
-    IsDurable may_leave old.rules old.history (step_entry moment what) [] old.rig now.rig
-BeginIsSafe at may_leave left_since old now moment (Ok (begun.Claimed claim)) = LeavesAlone at may_leave left_since old now
+    LeavesEntry at may_leave left_since old (step_entry moment what) [] now.rig ×
+    RestsLonger may_leave old (step_entry moment what) [] now.rig
+BeginIsSafe at may_leave left_since old now moment (Ok (begun.Claimed claim)) = OnlyReads at may_leave left_since old.rig now.rig
 BeginIsSafe at may_leave left_since old now moment (Ok (begun.Idle len)) = now.rig ≡ old.rig
 BeginIsSafe at may_leave left_since old now moment (Ok (begun.Held n len)) = now.rig ≡ old.rig
 BeginIsSafe at may_leave left_since old now moment (Err (fault.Down len)) = now.rig ≡ old.rig
 BeginIsSafe at may_leave left_since old now moment (Err fault.OutOfMemory) = now.rig ≡ old.rig
 BeginIsSafe at may_leave left_since old now moment (Err (fault.DiskFault len)) =
-    (now.beside ≡ None → LeavesAlone at may_leave left_since old now) ×
+    (now.beside ≡ None → OnlyReads at may_leave left_since old.rig now.rig) ×
     ((what : What) → now.beside ≡ Some (record { entry = step_entry moment what; payload = [] }) →
-    IsCrashSafe at may_leave left_since old.rules old.history (step_entry moment what) [] old.rig now.rig)
-BeginIsSafe at may_leave left_since old now moment (Err (fault.Damaged item stored found)) = LeavesAlone at may_leave left_since old now
+    LeavesEntry at may_leave left_since old (step_entry moment what) [] now.rig)
+BeginIsSafe at may_leave left_since old now moment (Err (fault.Damaged item stored found)) = OnlyReads at may_leave left_since old.rig now.rig
 
 -- a store whose payloads are what was sealed stays such a one, also where a disk fault leaves the entry beside the history,
 -- and over it no damage is met
 abbrev pub BeginKeepsSeals : {G R : Type 0} → Booked G R → Booked G R → ℕ → Result Begun StepFault → Type 0
 BeginKeepsSeals old now moment (Ok (begun.Stepped position)) =
-    (what : What) → now.history ≡ old.history ++ step_entry moment what ∷ [] → StaysSealed old (step_entry moment what)
+    (what : What) → now.history ≡ old.history ++ step_entry moment what ∷ [] → StaysSealed old (step_entry moment what) []
 BeginKeepsSeals old now moment (Ok (begun.Claimed claim)) = Unit {0}
 BeginKeepsSeals old now moment (Ok (begun.Idle len)) = Unit {0}
 BeginKeepsSeals old now moment (Ok (begun.Held n len)) = Unit {0}
 BeginKeepsSeals old now moment (Err (fault.Down len)) = Unit {0}
 BeginKeepsSeals old now moment (Err fault.OutOfMemory) = Unit {0}
 BeginKeepsSeals old now moment (Err (fault.DiskFault len)) =
-    (what : What) → now.beside ≡ Some (record { entry = step_entry moment what; payload = [] }) → StaysSealed old (step_entry moment what)
+    (what : What) → now.beside ≡ Some (record { entry = step_entry moment what; payload = [] }) → StaysSealed old (step_entry moment what) []
 BeginKeepsSeals old now moment (Err (fault.Damaged item stored found)) = AreSealed old.rules old.history old.payloads → ⊥
 
 -- the claimed row was taken: just its Cut or Erase is made, whose item is that of the claim, and no room is lost
@@ -208,13 +192,13 @@ FinishPayloads old now moment claim (Err fault) = Unit {0}
 -- it is as safe as a step of `work`
 abbrev pub FinishIsSafe : {G R : Type 0} → (R → ℕ) → (R → Areas → Type 0) → (R → ℕ → Areas → Type 0) → Booked G R → Booked G R → ℕ → ClaimView → Result ℕ BookFault → Type 0
 FinishIsSafe at may_leave left_since old now moment claim (Ok position) =
-    IsCrashSafe at may_leave left_since old.rules old.history (step_entry moment (step_of claim)) [] old.rig now.rig ×
-    IsDurable may_leave old.rules old.history (step_entry moment (step_of claim)) [] old.rig now.rig
+    LeavesEntry at may_leave left_since old (step_entry moment (step_of claim)) [] now.rig ×
+    RestsLonger may_leave old (step_entry moment (step_of claim)) [] now.rig
 FinishIsSafe at may_leave left_since old now moment claim (Err (book_fault.Down len)) = now.rig ≡ old.rig
 FinishIsSafe at may_leave left_since old now moment claim (Err (book_fault.DiskFault len)) =
-    IsCrashSafe at may_leave left_since old.rules old.history (step_entry moment (step_of claim)) [] old.rig now.rig
+    LeavesEntry at may_leave left_since old (step_entry moment (step_of claim)) [] now.rig
 
 abbrev pub FinishKeepsSeals : {G R : Type 0} → Booked G R → ℕ → ClaimView → Result ℕ BookFault → Type 0
-FinishKeepsSeals old moment claim (Ok position) = StaysSealed old (step_entry moment (step_of claim))
+FinishKeepsSeals old moment claim (Ok position) = StaysSealed old (step_entry moment (step_of claim)) []
 FinishKeepsSeals old moment claim (Err (book_fault.Down len)) = Unit {0}
-FinishKeepsSeals old moment claim (Err (book_fault.DiskFault len)) = StaysSealed old (step_entry moment (step_of claim))
+FinishKeepsSeals old moment claim (Err (book_fault.DiskFault len)) = StaysSealed old (step_entry moment (step_of claim)) []

@@ -2,7 +2,8 @@
 use Rattle.std.specs.Prelude.{◌≡◌, ℕ, ◌≤◌, ◌<◌, Bool, true, false, List, [], ◌∷◌, ◌++◌, Option, Some, None, Result, Ok, Err, length}
 use Rattle.delf_disk.specs.Areas.{Areas}
 use Rattle.delf_disk.specs.Causes.{Rose}
-use Rattle.delf_disk.specs.Moments.{Leaves}
+use Rattle.delf_disk.specs.Images.{Same}
+use Rattle.delf_disk.specs.Moments.{Runs, Leaves}
 use Rattle.delf_model.specs.declared.call.Call.{Call}
 use Rattle.delf_model.specs.declared.call.Call.TheVariants as call
 use Rattle.delf_model.specs.declared.call.Refusal.{Refusal}
@@ -22,6 +23,7 @@ use Rattle.store_laws.specs.Stores.{digest}
 use Rattle.store_laws.specs.Moves.{RestIn, StandsFor}
 use Rattle.delete_step.specs.Claims.{ClaimView}
 use Rattle.delf_book.specs.Parts.{Interrupted}
+use Rattle.delf_book.specs.Writing.{Rests}
 use Rattle.delf_book.specs.declared.faults.EntryFault.{EntryFault}
 use Rattle.delf_book.specs.declared.faults.EntryFault.TheVariants.{OutOfMemory, Failed}
 use Rattle.delf_book.specs.declared.answers.Receipt.{Receipt}
@@ -188,7 +190,8 @@ CountsRefusal before now (Err (refusal.DiskFault len)) = (before ≤ now) × Ros
 CountsRefusal before now (Ok x) = now ≡ before
 CountsRefusal before now (Err refusal) = now ≡ before
 
--- what a crash may leave: whatever payloads stood, each image since the start is that of the history, or of it with the entry
+-- what a crash may leave of the parts of a book: whatever payloads stood, each image since the start is that of the history,
+-- or of it with the entry
 
 abbrev pub IsCrashSafe : {R : Type 0} → (R → ℕ) → (R → Areas → Type 0) → (R → ℕ → Areas → Type 0) → RuleSet → List Entry → Entry → List ℕ → R → R → Type 0
 IsCrashSafe moment may_leave left_since rules history entry given old now =
@@ -200,6 +203,24 @@ abbrev pub IsDurable : {R : Type 0} → (R → Areas → Type 0) → RuleSet →
 IsDurable may_leave rules history entry given old now =
     (e : Payloads) → RestIn rules history e (may_leave old) →
     RestIn rules (history ++ entry ∷ []) (payloads_after digest (after rules history) entry given e) (may_leave now)
+
+-- the same of the payloads that a book has
+
+abbrev pub LeavesEntry : {G R : Type 0} → (R → ℕ) → (R → Areas → Type 0) → (R → ℕ → Areas → Type 0) → Booked G R → Entry → List ℕ → R → Type 0
+LeavesEntry moment may_leave left_since old entry given now =
+    Leaves moment may_leave left_since (StandsFor old.rules old.history old.payloads entry given) old.rig now
+
+abbrev pub RestsLonger : {G R : Type 0} → (R → Areas → Type 0) → Booked G R → Entry → List ℕ → R → Type 0
+RestsLonger may_leave old entry given now =
+    RestIn old.rules (old.history ++ entry ∷ []) (payloads_after digest (state_in old) entry given old.payloads) (may_leave now)
+
+-- no entry was made: each image since the start holds the history and its payloads
+abbrev pub LeavesAlone : {G R : Type 0} → (R → ℕ) → (R → Areas → Type 0) → (R → ℕ → Areas → Type 0) → Booked G R → R → Type 0
+LeavesAlone moment may_leave left_since old now = Leaves moment may_leave left_since (Rests old.rules old.history old.payloads) old.rig now
+
+-- nothing was written: each image since the start is one of before
+abbrev pub OnlyReads : {R : Type 0} → (R → ℕ) → (R → Areas → Type 0) → (R → ℕ → Areas → Type 0) → R → R → Type 0
+OnlyReads moment may_leave left_since old now = Runs moment may_leave left_since Same old now
 
 -- unless a disk call failed
 abbrev pub UnlessFailed : {T : Type 0} → Result T EntryFault → Type 0 → Type 0
@@ -216,11 +237,11 @@ CountsEntry before now (Err Failed) = (before ≤ now) × Rose before now
 abbrev pub CallIsSafe : {G R : Type 0} → (R → ℕ) → (R → Areas → Type 0) → (R → ℕ → Areas → Type 0) → Booked G R → Booked G R → ℕ → ℕ → Call → Result Receipt Refusal → Type 0
 CallIsSafe at may_leave left_since old now moment seat asked (Ok receipt) =
     (what : What) → reply (state_in old) moment seat asked ≡ Ok what →
-    IsCrashSafe at may_leave left_since old.rules old.history (record { moment = moment; what = what }) (given_by asked) old.rig now.rig ×
-    IsDurable may_leave old.rules old.history (record { moment = moment; what = what }) (given_by asked) old.rig now.rig
+    LeavesEntry at may_leave left_since old (record { moment = moment; what = what }) (given_by asked) now.rig ×
+    RestsLonger may_leave old (record { moment = moment; what = what }) (given_by asked) now.rig
 CallIsSafe at may_leave left_since old now moment seat asked (Err (refusal.DiskFault len)) =
     (what : What) → reply (state_in old) moment seat asked ≡ Ok what →
-    IsCrashSafe at may_leave left_since old.rules old.history (record { moment = moment; what = what }) (given_by asked) old.rig now.rig
+    LeavesEntry at may_leave left_since old (record { moment = moment; what = what }) (given_by asked) now.rig
 CallIsSafe at may_leave left_since old now moment seat asked (Err refusal) = now.rig ≡ old.rig
 
 -- the edge that an unlink takes stands

@@ -2,7 +2,6 @@
 use Rattle.std.specs.Prelude.{◌≡◌, ◌≢◌, ℕ, ◌+◌, ◌<◌, ◌≤◌, true, false, List, [], Some, None, Result, Ok, Err, length, slice_get}
 use Rattle.delf_disk.specs.Areas.{Areas}
 use Rattle.delf_disk.specs.Causes.{Rose}
-use Rattle.delf_disk.specs.Moments.{Leaves}
 use Rattle.delf_model.specs.declared.entry.Entry.{Entry}
 use Rattle.delf_model.specs.declared.entry.What.{What}
 use Rattle.delf_model.specs.declared.entry.What.TheVariants.{Put, Purge}
@@ -11,9 +10,7 @@ use Rattle.delf_model.specs.Puts.{judged}
 use Rattle.delf_model.specs.Order.{first_step}
 use Rattle.delf_model.specs.Payloads.{Payloads, payload_at}
 use Rattle.store_laws.specs.Stores.{digest}
-use Rattle.store_laws.specs.Moves.{RestIn}
-use Rattle.delf_book.specs.Books.{Booked, state_in, is_reserved, Grew, PayloadsGrew, Stayed, Fell, WasDown, IsCrashSafe, IsDurable}
-use Rattle.delf_book.specs.Writing.{Rests}
+use Rattle.delf_book.specs.Books.{Booked, state_in, is_reserved, Grew, PayloadsGrew, Stayed, Fell, WasDown, LeavesEntry, RestsLonger, OnlyReads}
 use Rattle.delf_book.specs.declared.answers.Worked.{Worked}
 use Rattle.delf_book.specs.declared.answers.Worked.TheVariants as worked
 use Rattle.delf_book.specs.declared.answers.StepFault.{StepFault}
@@ -93,14 +90,7 @@ StepTakesRoom old now moment (Ok (worked.Stepped position)) = (what : What) → 
 StepTakesRoom old now moment (Ok (worked.Idle len)) = Unit {0}
 StepTakesRoom old now moment (Err fault) = Unit {0}
 
--- a step that is made brings no payload, and any other answer leaves them, as `StepAnswers` says
-abbrev pub StepPayloads : {G R : Type 0} → Booked G R → Booked G R → ℕ → Result Worked StepFault → Type 0
-StepPayloads old now moment (Ok (worked.Stepped position)) =
-    (what : What) → first_step (state_in old) moment ≡ Some what → PayloadsGrew old now (step_entry moment what) []
-StepPayloads old now moment (Ok (worked.Idle len)) = Unit {0}
-StepPayloads old now moment (Err fault) = Unit {0}
-
--- what is put back is what was sealed, whatever payloads stood
+-- what is put back is what was sealed
 abbrev pub PutsSealed : State → What → Payloads → Type 0
 PutsSealed s what e = (i : ℕ) (logged : Logged) → PutsItem s what i logged →
     slice_get e.seals i ≡ Some (digest (payload_at e (position_of logged.item)))
@@ -110,23 +100,29 @@ pub record TellsDamage (s : State) (e : Payloads) (item : ℕ) (stored found : L
   pub sealed : slice_get e.seals item ≡ Some stored
   pub reads : (logged : Logged) → slice_get s.items item ≡ Some logged → found ≡ digest (payload_at e (position_of logged.item))
 
+-- a step that is made brings no payload, and puts back what was sealed; a damaged item is told by the two digests; and any
+-- other answer leaves the payloads, as `StepAnswers` says
+abbrev pub StepPayloads : {G R : Type 0} → Booked G R → Booked G R → ℕ → Result Worked StepFault → Type 0
+StepPayloads old now moment (Ok (worked.Stepped position)) =
+    (what : What) → first_step (state_in old) moment ≡ Some what → PayloadsGrew old now (step_entry moment what) [] × PutsSealed (state_in old) what old.payloads
+StepPayloads old now moment (Ok (worked.Idle len)) = Unit {0}
+StepPayloads old now moment (Err (fault.Down len)) = Unit {0}
+StepPayloads old now moment (Err fault.OutOfMemory) = Unit {0}
+StepPayloads old now moment (Err (fault.DiskFault len)) = Unit {0}
+StepPayloads old now moment (Err (fault.Damaged item stored found)) = TellsDamage (state_in old) old.payloads item stored found
+
 -- The crash clause of a step by its answer. A step that is not made makes no disk call, unless it met a disk fault, or
 -- read the payload that it would put back.
 abbrev pub StepIsSafe : {G R : Type 0} → (R → ℕ) → (R → Areas → Type 0) → (R → ℕ → Areas → Type 0) → Booked G R → Booked G R → ℕ → Result Worked StepFault → Type 0
 StepIsSafe at may_leave left_since old now moment (Ok (worked.Stepped position)) =
     (what : What) → first_step (state_in old) moment ≡ Some what →
-    IsCrashSafe at may_leave left_since old.rules old.history (step_entry moment what) [] old.rig now.rig ×
-    IsDurable may_leave old.rules old.history (step_entry moment what) [] old.rig now.rig ×
-    ((e : Payloads) → RestIn old.rules old.history e (may_leave old.rig) → PutsSealed (state_in old) what e)
+    LeavesEntry at may_leave left_since old (step_entry moment what) [] now.rig × RestsLonger may_leave old (step_entry moment what) [] now.rig
 StepIsSafe at may_leave left_since old now moment (Ok (worked.Idle len)) = now.rig ≡ old.rig
 StepIsSafe at may_leave left_since old now moment (Err (fault.Down len)) = now.rig ≡ old.rig
 StepIsSafe at may_leave left_since old now moment (Err fault.OutOfMemory) = now.rig ≡ old.rig
 StepIsSafe at may_leave left_since old now moment (Err (fault.DiskFault len)) =
-    (what : What) → first_step (state_in old) moment ≡ Some what →
-    IsCrashSafe at may_leave left_since old.rules old.history (step_entry moment what) [] old.rig now.rig
-StepIsSafe at may_leave left_since old now moment (Err (fault.Damaged item stored found)) =
-    (e : Payloads) → RestIn old.rules old.history e (may_leave old.rig) →
-    Leaves at may_leave left_since (Rests old.rules old.history e) old.rig now.rig × TellsDamage (state_in old) e item stored found
+    (what : What) → first_step (state_in old) moment ≡ Some what → LeavesEntry at may_leave left_since old (step_entry moment what) [] now.rig
+StepIsSafe at may_leave left_since old now moment (Err (fault.Damaged item stored found)) = OnlyReads at may_leave left_since old.rig now.rig
 
 -- the count of faults stays, but where a disk fault is answered, where it rises
 abbrev pub CountsStep : {T : Type 0} → ℕ → ℕ → Result T StepFault → Type 0

@@ -1,7 +1,8 @@
 //! Puts: a row goes back with the payload that was logged with it, or it is listed.
 ghost use Rattle.std.specs.Prelude.{◌≡◌, ◌+◌, ◌<◌, ◌≤◌, ◌++◌, ◌∷◌, ℕ, [], true, length, map, take, vec_capacity, IsTrue, IfOk, IfErr, OnOk, OnErr, false};
 ghost use Rattle.delf_disk.specs.Causes.{HasCause};
-ghost use Rattle.delf_disk.specs.Moments.{Leaves};
+ghost use Rattle.delf_disk.specs.Images.{Same};
+ghost use Rattle.delf_disk.specs.Moments.{Runs, Leaves};
 ghost use Rattle.delf_disk.specs.Plain.{Plain, SameKind};
 ghost use Rattle.delf_disk.specs.declared.area.Area.TheVariants.{Vault as VaultArea};
 ghost use Rattle.delf_model.specs.declared.TheConstants.{LIMIT};
@@ -68,9 +69,8 @@ pub(crate) fn put_item<G: GraphStore, D: Disk>(
         → RestIn ledger.old.rules ledger.old.history e (D.may_leave disk.old) → TellsWhy (state_of ledger.old) e fault) }
     ensures kept_logs { IfDamaged result (logs.new ≡ logs.old) }
     ensures kept { IfDamaged result (Plain (D.told disk.old) (D.honest disk.old) → KeepsAreas ledger.old.rules ledger.old.history (D.seen disk.new) (D.may_leave disk.new)) }
-    ensures only_read { IfDamaged result (Plain (D.told disk.old) (D.honest disk.old) → (e : Payloads)
-        → RestIn ledger.old.rules ledger.old.history e (D.may_leave disk.old)
-        → Leaves D.moment D.may_leave D.left_since (Rests ledger.old.rules ledger.old.history e) disk.old disk.new) }
+    ensures only_read { IfDamaged result (Plain (D.told disk.old) (D.honest disk.old)
+        → Runs D.moment D.may_leave D.left_since Same disk.old disk.new) }
 
     ensures kind { SameKind D.told D.honest D.order D.orders disk.old disk.new }
     ensures cause { CountsPut (D.faults disk.old) (D.faults disk.new) result }
@@ -121,9 +121,8 @@ fn put_back<G: GraphStore, D: Disk>(
         → RestIn ledger.old.rules ledger.old.history e (D.may_leave disk.old) → TellsWhy (state_of ledger.old) e fault) }
     ensures kept_logs { IfDamaged result (logs.new ≡ logs.old) }
     ensures kept { IfDamaged result (Plain (D.told disk.old) (D.honest disk.old) → KeepsAreas ledger.old.rules ledger.old.history (D.seen disk.new) (D.may_leave disk.new)) }
-    ensures only_read { IfDamaged result (Plain (D.told disk.old) (D.honest disk.old) → (e : Payloads)
-        → RestIn ledger.old.rules ledger.old.history e (D.may_leave disk.old)
-        → Leaves D.moment D.may_leave D.left_since (Rests ledger.old.rules ledger.old.history e) disk.old disk.new) }
+    ensures only_read { IfDamaged result (Plain (D.told disk.old) (D.honest disk.old)
+        → Runs D.moment D.may_leave D.left_since Same disk.old disk.new) }
 
     ensures kind { SameKind D.told D.honest D.order D.orders disk.old disk.new }
     ensures cause { CountsPut (D.faults disk.old) (D.faults disk.new) result }
@@ -167,6 +166,8 @@ fn fetch_item<G: GraphStore, D: Disk>(
         → RestIn ledger.now.rules ledger.now.history e (D.may_leave disk.old)
         → Leaves D.moment D.may_leave D.left_since (Rests ledger.now.rules ledger.now.history e) disk.old disk.new }
     ensures seen { Plain (D.told disk.old) (D.honest disk.old) → D.seen disk.new ≡ D.seen disk.old }
+    ensures any_moment { Plain (D.told disk.old) (D.honest disk.old)
+        → Runs D.moment D.may_leave D.left_since Same disk.old disk.new }
     ensures kind { SameKind D.told D.honest D.order D.orders disk.old disk.new }
     ensures cause { CountsPut (D.faults disk.old) (D.faults disk.new) result }
 {

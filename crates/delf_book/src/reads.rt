@@ -2,14 +2,12 @@
 ghost use Rattle.std.specs.Prelude.{◌≡◌, ◌≤◌, false, ℕ, length, take, drop, is_some, IsTrue, IfOk};
 ghost use Rattle.delf_disk.specs.Plain.{Plain, SameKind};
 ghost use Rattle.delf_disk.specs.Images.{Same};
-ghost use Rattle.delf_disk.specs.Moments.{Runs, Leaves};
+ghost use Rattle.delf_disk.specs.Moments.{Runs};
 ghost use Rattle.delf_model.specs.declared.TheConstants.{LIMIT};
 ghost use Rattle.delf_model.specs.Graph.{object_at, edge_at};
-ghost use Rattle.delf_model.specs.Payloads.{Payloads, payload_at};
-ghost use Rattle.store_laws.specs.Moves.{RestIn};
+ghost use Rattle.delf_model.specs.Payloads.{payload_at};
 ghost use Rattle.delf_book.specs.Books.{state_in, ReadAnswers, CountsFault};
 ghost use Rattle.delf_book.specs.Reads.{IsObjectAt, IsEdgeAt};
-ghost use Rattle.delf_book.specs.Writing.{Rests};
 
 use crate::answers::BookFault;
 use crate::book::Book;
@@ -25,15 +23,9 @@ impl<G: GraphStore, R: Rig> Book<G, R> {
 
         ensures answer { ReadAnswers self.old self.new result }
         ensures size { IfOk result (λ n. (at : ℕ) × IsObjectAt (object_at (state_in self.old).graph id) at n) }
-        ensures payload { IfOk result (λ n. Plain (R.Disk.told self.old.rig) (R.Disk.honest self.old.rig) → (e : Payloads)
-            → RestIn self.old.rules self.old.history e (R.Disk.may_leave self.old.rig) → (at : ℕ)
-            → IsObjectAt (object_at (state_in self.old).graph id) at n → take n buf.new ≡ payload_at e at) }
-        ensures reads { IfOk result (λ n. Plain (R.Disk.told self.old.rig) (R.Disk.honest self.old.rig) → (at : ℕ)
+        ensures payload { IfOk result (λ n. Plain (R.Disk.told self.old.rig) (R.Disk.honest self.old.rig) → (at : ℕ)
             → IsObjectAt (object_at (state_in self.old).graph id) at n → take n buf.new ≡ payload_at self.old.payloads at) }
         ensures rest { IfOk result (λ n. drop n buf.new ≡ drop n buf.old) }
-        ensures crash { Plain (R.Disk.told self.old.rig) (R.Disk.honest self.old.rig) → self.old.down ≡ false → (e : Payloads)
-            → RestIn self.old.rules self.old.history e (R.Disk.may_leave self.old.rig)
-            → Leaves R.Disk.moment R.Disk.may_leave R.Disk.left_since (Rests self.old.rules self.old.history e) self.old.rig self.new.rig }
         // Nothing is written: the areas read as before, and each image since the start is one of before.
         ensures seen { Plain (R.Disk.told self.old.rig) (R.Disk.honest self.old.rig) → R.Disk.seen self.new.rig ≡ R.Disk.seen self.old.rig }
         ensures images { Plain (R.Disk.told self.old.rig) (R.Disk.honest self.old.rig)
@@ -63,15 +55,9 @@ impl<G: GraphStore, R: Rig> Book<G, R> {
 
         ensures answer { ReadAnswers self.old self.new result }
         ensures size { IfOk result (λ n. (at : ℕ) × IsEdgeAt (edge_at (state_in self.old).graph key) at n) }
-        ensures payload { IfOk result (λ n. Plain (R.Disk.told self.old.rig) (R.Disk.honest self.old.rig) → (e : Payloads)
-            → RestIn self.old.rules self.old.history e (R.Disk.may_leave self.old.rig) → (at : ℕ)
-            → IsEdgeAt (edge_at (state_in self.old).graph key) at n → take n buf.new ≡ payload_at e at) }
-        ensures reads { IfOk result (λ n. Plain (R.Disk.told self.old.rig) (R.Disk.honest self.old.rig) → (at : ℕ)
+        ensures payload { IfOk result (λ n. Plain (R.Disk.told self.old.rig) (R.Disk.honest self.old.rig) → (at : ℕ)
             → IsEdgeAt (edge_at (state_in self.old).graph key) at n → take n buf.new ≡ payload_at self.old.payloads at) }
         ensures rest { IfOk result (λ n. drop n buf.new ≡ drop n buf.old) }
-        ensures crash { Plain (R.Disk.told self.old.rig) (R.Disk.honest self.old.rig) → self.old.down ≡ false → (e : Payloads)
-            → RestIn self.old.rules self.old.history e (R.Disk.may_leave self.old.rig)
-            → Leaves R.Disk.moment R.Disk.may_leave R.Disk.left_since (Rests self.old.rules self.old.history e) self.old.rig self.new.rig }
         // Nothing is written: the areas read as before, and each image since the start is one of before.
         ensures seen { Plain (R.Disk.told self.old.rig) (R.Disk.honest self.old.rig) → R.Disk.seen self.new.rig ≡ R.Disk.seen self.old.rig }
         ensures images { Plain (R.Disk.told self.old.rig) (R.Disk.honest self.old.rig)

@@ -2,12 +2,8 @@
 ghost use Rattle.std.specs.Prelude.{◌≡◌, ◌≤◌, ◌<◌, false, OnOk, OnErr};
 ghost use Rattle.delf_disk.specs.Areas.{Areas};
 ghost use Rattle.delf_disk.specs.Plain.{Plain, SameKind};
-ghost use Rattle.delf_disk.specs.Moments.{Leaves};
-ghost use Rattle.delf_model.specs.Payloads.{Payloads};
 ghost use Rattle.store_laws.specs.Stores.{Settled};
-ghost use Rattle.store_laws.specs.Moves.{RestIn};
-ghost use Rattle.delf_book.specs.Books.{Stayed, ReadAnswers, CountsFault};
-ghost use Rattle.delf_book.specs.Writing.{Rests};
+ghost use Rattle.delf_book.specs.Books.{Stayed, ReadAnswers, CountsFault, LeavesAlone};
 
 use crate::answers::BookFault;
 use crate::book::Book;
@@ -42,9 +38,8 @@ impl<G: GraphStore, R: Rig> Book<G, R> {
     /// is not needed.
     pub fn settle(&mut self) -> Result<(), BookFault>
         ensures answer { ReadAnswers self.old self.new result }
-        ensures crash { Plain (R.Disk.told self.old.rig) (R.Disk.honest self.old.rig) → self.old.down ≡ false → (e : Payloads)
-            → RestIn self.old.rules self.old.history e (R.Disk.may_leave self.old.rig)
-            → Leaves R.Disk.moment R.Disk.may_leave R.Disk.left_since (Rests self.old.rules self.old.history e) self.old.rig self.new.rig }
+        ensures crash { Plain (R.Disk.told self.old.rig) (R.Disk.honest self.old.rig) → self.old.down ≡ false
+            → LeavesAlone R.Disk.moment R.Disk.may_leave R.Disk.left_since self.old self.new.rig }
         ensures settled { OnOk result (Plain (R.Disk.told self.old.rig) (R.Disk.honest self.old.rig) → (c : Areas)
             → R.Disk.may_leave self.new.rig c → Settled self.old.rules self.old.history c) }
         ensures kind { SameKind R.Disk.told R.Disk.honest R.Disk.order R.Disk.orders self.old.rig self.new.rig }

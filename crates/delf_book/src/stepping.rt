@@ -1,6 +1,7 @@
 //! The serial step over the parts of a book.
 ghost use Rattle.std.specs.Prelude.{◌≡◌, ◌≢◌, ◌+◌, ◌<◌, ◌≤◌, ℕ, [], true, false, length, vec_capacity, IsTrue, IfOk, IfErr, OnOk, OnErr};
-ghost use Rattle.delf_disk.specs.Moments.{Leaves};
+ghost use Rattle.delf_disk.specs.Images.{Same};
+ghost use Rattle.delf_disk.specs.Moments.{Runs};
 ghost use Rattle.delf_disk.specs.Plain.{Plain, SameKind};
 ghost use Rattle.delf_model.specs.Legal.{is_legal};
 ghost use Rattle.delf_model.specs.Order.{is_step, is_held};
@@ -13,7 +14,6 @@ ghost use Rattle.ledger.specs.Ledgers.{state_of, is_ready, IsSame, HasEntered};
 ghost use Rattle.delf_book.specs.Claims.{room_for};
 ghost use Rattle.delf_book.specs.Stepping.{PutsBackItem, TellsWhy, RefusesPut, IfDamaged, CountsPut, halt_of, IfStarved, IfHurt, IfWaits, CountsHalt};
 ghost use Rattle.delf_book.specs.Steps.{PutsSealed, TellsDamage};
-ghost use Rattle.delf_book.specs.Writing.{Rests};
 
 use crate::adding::add;
 use crate::erasing::take_row;
@@ -110,9 +110,8 @@ pub(crate) fn step<G: GraphStore, D: Disk>(
     ensures refuses { IfHurt result (λ item stored found. PutsBackItem (state_of ledger.old) entry.now.what item × (stored ≢ found)) }
     ensures damaged { IfHurt result (λ item stored found. Plain (D.told disk.old) (D.honest disk.old) → (e : Payloads)
         → RestIn ledger.old.rules ledger.old.history e (D.may_leave disk.old) → TellsDamage (state_of ledger.old) e item stored found) }
-    ensures only_read { IfHurt result (λ item stored found. Plain (D.told disk.old) (D.honest disk.old) → (e : Payloads)
-        → RestIn ledger.old.rules ledger.old.history e (D.may_leave disk.old)
-        → Leaves D.moment D.may_leave D.left_since (Rests ledger.old.rules ledger.old.history e) disk.old disk.new) }
+    ensures only_read { IfHurt result (λ item stored found. Plain (D.told disk.old) (D.honest disk.old)
+        → Runs D.moment D.may_leave D.left_since Same disk.old disk.new) }
 
     ensures kind { SameKind D.told D.honest D.order D.orders disk.old disk.new }
     ensures cause { CountsHalt (D.faults disk.old) (D.faults disk.new) result }
@@ -215,9 +214,8 @@ fn make_step<G: GraphStore, D: Disk>(
         → RestIn ledger.old.rules ledger.old.history e (D.may_leave disk.old) → TellsWhy (state_of ledger.old) e fault) }
     ensures kept_logs { IfDamaged result (logs.new ≡ logs.old) }
     ensures kept { IfDamaged result (Plain (D.told disk.old) (D.honest disk.old) → KeepsAreas ledger.old.rules ledger.old.history (D.seen disk.new) (D.may_leave disk.new)) }
-    ensures only_read { IfDamaged result (Plain (D.told disk.old) (D.honest disk.old) → (e : Payloads)
-        → RestIn ledger.old.rules ledger.old.history e (D.may_leave disk.old)
-        → Leaves D.moment D.may_leave D.left_since (Rests ledger.old.rules ledger.old.history e) disk.old disk.new) }
+    ensures only_read { IfDamaged result (Plain (D.told disk.old) (D.honest disk.old)
+        → Runs D.moment D.may_leave D.left_since Same disk.old disk.new) }
 
     ensures kind { SameKind D.told D.honest D.order D.orders disk.old disk.new }
     ensures cause { CountsPut (D.faults disk.old) (D.faults disk.new) result }

@@ -30,7 +30,7 @@ impl<G: GraphStore, R: Rig> Book<G, R> {
         ensures crash { Plain (R.Disk.told self.old.rig) (R.Disk.honest self.old.rig)
             → StepIsSafe R.Disk.moment R.Disk.may_leave R.Disk.left_since self.old self.new (moment_of (state_in self.old) now) result }
         ensures seals { Plain (R.Disk.told self.old.rig) (R.Disk.honest self.old.rig)
-            → StepKeepsSeals R.Disk.may_leave self.old (moment_of (state_in self.old) now) result }
+            → StepKeepsSeals self.old (moment_of (state_in self.old) now) result }
         ensures kind { SameKind R.Disk.told R.Disk.honest R.Disk.order R.Disk.orders self.old.rig self.new.rig }
         ensures cause { CountsStep (R.Disk.faults self.old.rig) (R.Disk.faults self.new.rig) result }
     {

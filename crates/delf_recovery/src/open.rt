@@ -46,6 +46,7 @@ pub fn open_book<G: GraphStore + Drop, R: Rig>(
     ensures up { IfOk result (λ book. book.down ≡ false) }
     ensures beside { IfOk result (λ book. book.beside ≡ None) }
     ensures held { IfOk result (λ book. book.held ≡ []) }
+    ensures spare { IfOk result (λ book. book.spare ≡ 0) }
     ensures legal { IfOk result (λ book. Legal book.rules book.history) }
     ensures sound { IfOk result (λ book. Sound book.rules book.history) }
 

@@ -24,17 +24,16 @@ use Rattle.delf_model.specs.Step.{after}
 use Rattle.delf_book.proofs.Fitting.{FitsObject, all_found, objects_fit}
 use Rattle.delf_book.specs.Parts.{Interrupted}
 use Rattle.delf_book.specs.Books.{Booked, state_in, Answers, CallPayloads, CountsRefusal, Grew, Stayed, Fell, WasDown, ReadAnswers, CountsFault, OnlyRig}
-use Rattle.delf_book.specs.Holding.{Holds, StandWhole}
+use Rattle.delf_book.specs.Holding.{StandWhole}
 use Rattle.delf_book.specs.Reads.{IsObjectAt}
 use Rattle.delf_book.specs.Seals.{StepKeepsSeals}
 use Rattle.store_laws.specs.Stores.{AreSealed}
-use Rattle.store_laws.specs.Moves.{RestIn}
 use Rattle.delf_book.specs.Begun.{BeginAnswers, BeginPayloads, BeginKeepsSeals, FinishAnswers, FinishPayloads}
 use Rattle.delf_book.specs.Claims.{step_of as claimed_step}
 use Rattle.delf_book.specs.declared.answers.Begun.{Begun}
 use Rattle.delf_book.specs.declared.answers.Begun.TheVariants as begun
 use Rattle.delete_step.specs.Claims.{ClaimView}
-use Rattle.delf_book.specs.Steps.{StepAnswers, StepIsSafe, StepPayloads, CountsStep}
+use Rattle.delf_book.specs.Steps.{StepAnswers, StepPayloads, CountsStep}
 use Rattle.delf_book.specs.declared.answers.Receipt.{Receipt}
 use Rattle.delf_book.specs.declared.answers.BookFault.{BookFault}
 use Rattle.delf_book.specs.declared.answers.BookFault.TheVariants as book
@@ -204,40 +203,35 @@ module _ {R : Type 0} (d : Ghosts R) where
         subst (λ (s : Standing). TurnsIn s z clock w) (unchanged (held_same moment n len r (is ∙ ap (λ (v : Begun). Ok v) one) h)) turns
 
     -- what a step answers
-    module _ (clock : ℕ) (holds : Tells → Holds d.seen d.may_leave old)
-        (sealed : Tells → StandWhole old.rules (d.seen old.opened) → AreSealed old.rules old.history old.payloads) where
-      rests : Tells → old.down ≡ false → RestIn old.rules old.history old.payloads (d.may_leave old.rig)
-      rests plain up = (holds plain).rests up
-
+    module _ (clock : ℕ) (sealed : Tells → StandWhole old.rules (d.seen old.opened) → AreSealed old.rules old.history old.payloads) where
       pub steps_in : (r : Result Worked StepFault) → StepAnswers old now (moment_of (state_in old) clock) r
           → (Tells → StepPayloads old now (moment_of (state_in old) clock) r)
-          → (Tells → StepIsSafe d.moment d.may_leave d.left_since old now (moment_of (state_in old) clock) r)
-          → (Tells → StepKeepsSeals d.may_leave old (moment_of (state_in old) clock) r)
+          → (Tells → StepKeepsSeals old (moment_of (state_in old) clock) r)
           → CountsStep (d.faults old.rig) (d.faults now.rig) r → SameRig old.rig now.rig
           → (old.down ≡ false → FirstIsLegal (state_in old) (moment_of (state_in old) clock)) → StepsIn x y clock (turned_by r)
-      steps_in (Ok (worked.Stepped position)) h given safe seals count kept order = record {
+      steps_in (Ok (worked.Stepped position)) h given seals count kept order = record {
         up = h.up;
         what = h.what;
         is_legal = (order h.up).legal h.what h.is_first;
         maker = step_maker (state_in old) (moment_of (state_in old) clock) h.what ((order h.up).legal h.what h.is_first);
         left = grew (entry_in x clock h.what) h.up h.grew count kept;
-        payloads = λ plain. given plain h.what h.is_first;
+        payloads = λ plain. (given plain h.what h.is_first).0;
         position_is = h.position_is;
       }
-      steps_in (Ok (worked.Idle len)) h given safe seals count kept order = record { up = h.up; none = (order h.up).none h.none; same = unchanged h.same; length_is = h.length_is }
-      steps_in (Err (fault.Down len)) h given safe seals count kept order = was_down len h
-      steps_in (Err fault.OutOfMemory) h given safe seals count kept order = record { up = h.up; what = h.what; is_legal = (order h.up).legal h.what h.is_first; same = stayed h.stayed }
-      steps_in (Err (fault.DiskFault len)) h given safe seals count kept order =
+      steps_in (Ok (worked.Idle len)) h given seals count kept order = record { up = h.up; none = (order h.up).none h.none; same = unchanged h.same; length_is = h.length_is }
+      steps_in (Err (fault.Down len)) h given seals count kept order = was_down len h
+      steps_in (Err fault.OutOfMemory) h given seals count kept order = record { up = h.up; what = h.what; is_legal = (order h.up).legal h.what h.is_first; same = stayed h.stayed }
+      steps_in (Err (fault.DiskFault len)) h given seals count kept order =
           record { what = h.what; is_legal = (order h.up).legal h.what h.is_first; falls = fell _ h.up h.fell count kept; length_is = h.length_is }
-      steps_in (Err (fault.Damaged item stored digest)) h given safe seals count kept order = record {
+      steps_in (Err (fault.Damaged item stored digest)) h given seals count kept order = record {
         up = h.up;
         what = h.what;
         is_legal = (order h.up).legal h.what h.is_first;
         logged = h.logged;
         puts = h.puts;
         differ = h.differ;
-        tells = λ plain. (safe plain old.payloads (rests plain h.up)).1;
-        never = λ plain whole. seals plain old.payloads (rests plain h.up) (sealed plain whole);
+        tells = λ plain. given plain;
+        never = λ plain whole. seals plain (sealed plain whole);
         same = same_parts now.history old.history now.payloads old.payloads (d.faults now.rig) (d.faults old.rig) now.down old.down n y.key x.key
             (ap (λ (b : Booked G R). b.history) h.rest) (ap (λ (b : Booked G R). b.payloads) h.rest) count (ap (λ (b : Booked G R). b.down) h.rest)
             (key_same (ap (λ (b : Booked G R). b.rules) h.rest) kept (ap (λ (b : Booked G R). b.opened) h.rest));

@@ -30,8 +30,9 @@ use Rattle.script_runner.specs.Serial.{answer, answer_text, accepted_text, after
 use Rattle.documents.specs.Names.{edge_name}
 use Rattle.script_runner.specs.Serial as serial
 use Rattle.script_runner.specs.Standing.{Carried, HaltedAt, Falls}
-use Rattle.script_runner.specs.Worlds.{World, StandsOn, IsHeld, world_of, state_of, now_of, fallen, interrupted}
+use Rattle.script_runner.specs.Worlds.{World, StandsOn, IsHeld, world_of, state_of, now_of, entry_now, fallen, interrupted}
 use Rattle.script_runner.proofs.Keeping.{refusal_numbered}
+use Rattle.delf_book.proofs.Owned.{OnDisk, leaves_entry_as, longer_as}
 use Rattle.script_runner.proofs.Standing.{world, same_world, stands_held, up_stands, fell_world, fell_stands}
 
 -- the line of a receipt
@@ -80,12 +81,12 @@ grew_stands old now clock e entry images grew alone rests =
     subst (λ (w : World). StandsOn w images) (sym (grew_world old now clock e e entry grew alone))
     (up_stands (world old.rules (old.history ++ entry ∷ []) e clock false None) images refl refl rests)
 
-pub accepted_carries : {G R : Type 0} → (at : R → ℕ) (may_leave : R → Areas → Type 0) (left_since : R → ℕ → Areas → Type 0) (faults : R → ℕ) (schema : Schema) (asked : Call)
-    (old now : Booked G R) (clock : ℕ) (e : Payloads) (receipt : Receipt) (text : List ℕ) → Accepted old now (moment_of (state_in old) clock) 0 asked receipt →
+pub accepted_carries : {G R : Type 0} → (seen : R → Areas) (at : R → ℕ) (may_leave : R → Areas → Type 0) (left_since : R → ℕ → Areas → Type 0) (faults : R → ℕ) (schema : Schema) (asked : Call)
+    (old now : Booked G R) (clock : ℕ) (e : Payloads) (receipt : Receipt) (text : List ℕ) → OnDisk seen may_leave old → Accepted old now (moment_of (state_in old) clock) 0 asked receipt →
     CallIsSafe at may_leave left_since old now (moment_of (state_in old) clock) 0 asked (Ok receipt) → faults now.rig ≡ faults old.rig →
     text ≡ receipt_text schema asked receipt → StandsOn (world_of old clock e) (may_leave old.rig) →
     Carried may_leave faults schema (Submit asked) (world_of old clock e) (faults old.rig) now clock text
-accepted_carries at may_leave left_since faults schema asked old now clock e receipt text a safe count said stands =
+accepted_carries seen at may_leave left_since faults schema asked old now clock e receipt text on a safe count said stands =
     let w : World = world_of old clock e in
     let entry : Entry = record { moment = now_of w; what = a.what } in
     let next : Payloads = payloads_after digest (state_of w) entry (given_by asked) e in
@@ -95,19 +96,20 @@ accepted_carries at may_leave left_since faults schema asked old now clock e rec
       serves = serial.Submits.Answers a.up count
           (said ∙ receipt_is schema w asked a.what receipt a.is_reply a.position a.started a.items ∙ ap (answer_text schema w asked) (sym a.is_reply))
           (grew_world old now clock e next entry a.grew alone ∙ ap (after_answer w asked) (sym a.is_reply));
-      stands = grew_stands old now clock next entry (may_leave now.rig) a.grew alone ((safe a.what a.is_reply).1 e (stands.rests a.up));
+      stands = grew_stands old now clock next entry (may_leave now.rig) a.grew alone
+          (longer_as seen at may_leave left_since old now e on a.up (stands.rests a.up) entry (given_by asked) (safe a.what a.is_reply).1);
     }
 
-pub accepted_halts : {G R : Type 0} → (at : R → ℕ) (may_leave : R → Areas → Type 0) (left_since : R → ℕ → Areas → Type 0) (asked : Call)
-    (old now : Booked G R) (clock : ℕ) (e : Payloads) (receipt : Receipt) → Accepted old now (moment_of (state_in old) clock) 0 asked receipt →
+pub accepted_halts : {G R : Type 0} → (seen : R → Areas) (at : R → ℕ) (may_leave : R → Areas → Type 0) (left_since : R → ℕ → Areas → Type 0) (asked : Call)
+    (old now : Booked G R) (clock : ℕ) (e : Payloads) (receipt : Receipt) → OnDisk seen may_leave old → Accepted old now (moment_of (state_in old) clock) 0 asked receipt →
     CallIsSafe at may_leave left_since old now (moment_of (state_in old) clock) 0 asked (Ok receipt) → StandsOn (world_of old clock e) (may_leave old.rig) →
     HaltedAt (Submit asked) (world_of old clock e) (may_leave now.rig)
-accepted_halts at may_leave left_since asked old now clock e receipt a safe stands =
+accepted_halts seen at may_leave left_since asked old now clock e receipt on a safe stands =
     let w : World = world_of old clock e in
     record {
       next = fallen w (Some (interrupted w a.what (given_by asked)));
       halts = inr (a.up, (a.what, (a.is_reply, inr refl)));
-      held = λ c image. ((safe a.what a.is_reply).0 e (stands.rests a.up)).now c image;
+      held = λ c image. (leaves_entry_as seen at may_leave left_since old now e on a.up (stands.rests a.up) (entry_now w a.what) (given_by asked) (safe a.what a.is_reply).0).now c image;
     }
 
 -- a call that met a disk fault
@@ -151,12 +153,12 @@ was_down {G} {R} may_leave faults schema asked old now clock e text down same co
   stands = subst (λ (b : Booked G R). StandsOn (world_of b clock e) (may_leave b.rig)) (sym same) stands;
 }
 
-fell : {G R : Type 0} → (at : R → ℕ) (may_leave : R → Areas → Type 0) (left_since : R → ℕ → Areas → Type 0) (faults : R → ℕ) (schema : Schema) (asked : Call)
-    (old now : Booked G R) (clock : ℕ) (e : Payloads) (text : List ℕ) (len : ℕ) → Interrupts old now (moment_of (state_in old) clock) 0 asked len →
+fell : {G R : Type 0} → (seen : R → Areas) (at : R → ℕ) (may_leave : R → Areas → Type 0) (left_since : R → ℕ → Areas → Type 0) (faults : R → ℕ) (schema : Schema) (asked : Call)
+    (old now : Booked G R) (clock : ℕ) (e : Payloads) (text : List ℕ) (len : ℕ) → OnDisk seen may_leave old → Interrupts old now (moment_of (state_in old) clock) 0 asked len →
     CallIsSafe at may_leave left_since old now (moment_of (state_in old) clock) 0 asked (Err (DiskFault len)) → Rose (faults old.rig) (faults now.rig) →
     text ≡ refusal_text (DiskFault len) (length old.history) (refusal_name schema (DiskFault len)) → StandsOn (world_of old clock e) (may_leave old.rig) →
     Carried may_leave faults schema (Submit asked) (world_of old clock e) (faults old.rig) now clock text
-fell at may_leave left_since faults schema asked old now clock e text len i safe rose said stands =
+fell seen at may_leave left_since faults schema asked old now clock e text len on i safe rose said stands =
     let w : World = world_of old clock e in
     let beside : Interrupted = interrupted w i.what (given_by asked) in
     record {
@@ -164,18 +166,18 @@ fell at may_leave left_since faults schema asked old now clock e text len i safe
       serves = serial.Submits.Falls i.what i.up rose i.is_reply (said ∙ down_line schema len (length old.history) i.length_is)
           (fell_world old now clock e (Some beside) i.fell);
       stands = fell_stands old now clock e (Some beside) (may_leave now.rig) i.fell
-          (λ c image. (safe i.what i.is_reply e (stands.rests i.up)).now c image);
+          (λ c image. (leaves_entry_as seen at may_leave left_since old now e on i.up (stands.rests i.up) beside.entry (given_by asked) (safe i.what i.is_reply)).now c image);
     }
 
-pub refused_carries : {G R : Type 0} → (at : R → ℕ) (may_leave : R → Areas → Type 0) (left_since : R → ℕ → Areas → Type 0) (faults : R → ℕ) (schema : Schema) (asked : Call)
-    (old now : Booked G R) (clock : ℕ) (e : Payloads) (text : List ℕ) (r : Refusal) → RefusedIs at may_leave left_since faults schema asked old now clock e text r
-refused_carries at may_leave left_since faults schema asked old now clock e text (Down len) answers safe counts other said stands =
+pub refused_carries : {G R : Type 0} → (seen : R → Areas) (at : R → ℕ) (may_leave : R → Areas → Type 0) (left_since : R → ℕ → Areas → Type 0) (faults : R → ℕ) (schema : Schema) (asked : Call)
+    (old now : Booked G R) (clock : ℕ) (e : Payloads) (text : List ℕ) (r : Refusal) → OnDisk seen may_leave old → RefusedIs at may_leave left_since faults schema asked old now clock e text r
+refused_carries seen at may_leave left_since faults schema asked old now clock e text (Down len) on answers safe counts other said stands =
     was_down may_leave faults schema asked old now clock e text answers.0 answers.2 counts
     (said ∙ down_refused schema len (length old.history) answers.1) stands
-refused_carries at may_leave left_since faults schema asked old now clock e text OutOfMemory answers safe counts other said stands = absurd (other refl)
-refused_carries at may_leave left_since faults schema asked old now clock e text (DiskFault len) answers safe counts other said stands =
-    fell at may_leave left_since faults schema asked old now clock e text len answers safe counts.1 said stands
-refused_carries at may_leave left_since faults schema asked old now clock e text r answers safe counts other said stands =
+refused_carries seen at may_leave left_since faults schema asked old now clock e text OutOfMemory on answers safe counts other said stands = absurd (other refl)
+refused_carries seen at may_leave left_since faults schema asked old now clock e text (DiskFault len) on answers safe counts other said stands =
+    fell seen at may_leave left_since faults schema asked old now clock e text len on answers safe counts.1 said stands
+refused_carries seen at may_leave left_since faults schema asked old now clock e text r on answers safe counts other said stands =
     plainly at may_leave left_since faults schema asked old now clock e text r answers.0 answers.1 answers.2 counts said stands
 
 -- what else a refused call leaves, by the refusal
@@ -188,16 +190,16 @@ same_halts {G} {R} may_leave asked old rig clock e legal same stands = record {
   held = subst (λ (r : R). IsHeld (world_of old clock e) (may_leave r)) (sym same) (stands_held (world_of old clock e) (may_leave old.rig) legal stands);
 }
 
-pub refused_halts : {G R : Type 0} → (at : R → ℕ) (may_leave : R → Areas → Type 0) (left_since : R → ℕ → Areas → Type 0) (asked : Call)
-    (old now : Booked G R) (clock : ℕ) (e : Payloads) (r : Refusal) → Legal old.rules old.history → Answers old now (moment_of (state_in old) clock) 0 asked (Err r) →
+pub refused_halts : {G R : Type 0} → (seen : R → Areas) (at : R → ℕ) (may_leave : R → Areas → Type 0) (left_since : R → ℕ → Areas → Type 0) (asked : Call)
+    (old now : Booked G R) (clock : ℕ) (e : Payloads) (r : Refusal) → OnDisk seen may_leave old → Answers old now (moment_of (state_in old) clock) 0 asked (Err r) →
     CallIsSafe at may_leave left_since old now (moment_of (state_in old) clock) 0 asked (Err r) → StandsOn (world_of old clock e) (may_leave old.rig) →
     HaltedAt (Submit asked) (world_of old clock e) (may_leave now.rig)
-refused_halts at may_leave left_since asked old now clock e (DiskFault len) legal i safe stands = record {
+refused_halts seen at may_leave left_since asked old now clock e (DiskFault len) on i safe stands = record {
   next = fallen (world_of old clock e) (Some (interrupted (world_of old clock e) i.what (given_by asked)));
   halts = inr (i.up, (i.what, (i.is_reply, inr refl)));
-  held = λ c image. (safe i.what i.is_reply e (stands.rests i.up)).now c image;
+  held = λ c image. (leaves_entry_as seen at may_leave left_since old now e on i.up (stands.rests i.up) (entry_now (world_of old clock e) i.what) (given_by asked) (safe i.what i.is_reply)).now c image;
 }
-refused_halts at may_leave left_since asked old now clock e r legal answers safe stands = same_halts may_leave asked old now.rig clock e legal safe stands
+refused_halts seen at may_leave left_since asked old now clock e r on answers safe stands = same_halts may_leave asked old now.rig clock e on.legal safe stands
 
 pub refused_rules : {G R : Type 0} → (old now : Booked G R) (moment : ℕ) (asked : Call) (r : Refusal) → Answers old now moment 0 asked (Err r) → now.rules ≡ old.rules
 refused_rules {G} {R} old now moment asked (Down len) answers = ap (λ (b : Booked G R). b.rules) answers.2

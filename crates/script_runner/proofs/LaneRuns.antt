@@ -43,10 +43,6 @@ use Rattle.delf_service.specs.Lanes.{HasCommand, LaneTold, Tells, TellsAnswer, T
 use Rattle.delf_service.specs.Rows.{commands_in, commands_at}
 use Rattle.delf_service.specs.Standings.{standing_of}
 use Rattle.opening_laws.specs.Entries.{SamePayloads}
-use Rattle.opening_laws.proofs.Unique.{one_payloads}
-use Rattle.store_laws.specs.Stores.{StandBut}
-use Rattle.store_laws.proofs.Appends.{rest_stand}
-use Rattle.store_laws.specs.Moves.{RestIn}
 use Rattle.documents.specs.Names.{HasNames, IsNumberedCall, IsNumberedLaneCommand, IsNumberedLane, IsNumberedBlock}
 use Rattle.script_runner.specs.Blocks.{AreFed, MayRun, RunsTo, RunsLanes, LeavesLanes, Shows, block_lines}
 use Rattle.script_runner.specs.Names.{IsNamed, IsNumberedRefusal, IsNumberedAnswer, IsNumberedAsked, IsNumberedReply, AreNumberedReplies, AreNumberedOuts}
@@ -56,6 +52,7 @@ use Rattle.script_runner.specs.Standing.{Falls, Carried, HaltedAt}
 use Rattle.script_runner.specs.Worlds.{World, StandsOn, IsHeld, world_of}
 use Rattle.script_runner.proofs.Kept.{kept_bytes, no_other}
 use Rattle.script_runner.proofs.Keeping.{object_if}
+use Rattle.delf_book.proofs.Owned.{rest_same}
 use Rattle.script_runner.proofs.Numbered.{rules_after, numbered_after}
 use Rattle.script_runner.proofs.Refusals.{reply_numbered}
 use Rattle.script_runner.proofs.Standing.{stands_held}
@@ -205,12 +202,6 @@ outs_numbered schema first final workers now lanes outs names numbered has block
 pub outs_few : (first final : Standing) (rules : RuleSet) (workers now : ℕ) (lanes : List Lane) (outs : List LaneOut) → IsNumberedBlock rules workers lanes →
     IsBlock first final now lanes outs → length outs ≤ 16
 outs_few first final rules workers now lanes outs numbered block = omega (arith, numbered.few_lanes, block.told.count)
-
--- two payloads that rest on a disk with one image read the same
-pub rest_same : (rules : RuleSet) (h : List Entry) (d e : Payloads) (images : Areas → Type 0) (c : Areas) → Legal rules h → images c →
-    RestIn rules h d images → RestIn rules h e images → SamePayloads d e
-rest_same rules h d e images c legal image one two =
-    one_payloads rules h d e c (rest_stand rules h d c legal (one c image).0 (one c image).1) (rest_stand rules h e c legal (two c image).0 (two c image).1)
 
 pub same_self : (e : Payloads) → SamePayloads e e
 same_self e = record { bytes = λ p. refl; seals = refl }

@@ -16,7 +16,7 @@ use Rattle.delf_book.specs.Parts.{Interrupted}
 use Rattle.delf_book.specs.declared.answers.Worked.TheVariants as worked
 use Rattle.delf_book.specs.declared.answers.StepFault.TheVariants as fault
 use Rattle.delf_book.specs.Books.{Booked, state_in}
-use Rattle.delf_book.specs.Steps.{Steps, Idles, InterruptsStep, MeetsDamage, StepIsSafe, PutsSealed, step_entry}
+use Rattle.delf_book.specs.Steps.{Steps, Idles, InterruptsStep, MeetsDamage, StepIsSafe, StepPayloads, PutsSealed, step_entry}
 use Rattle.delf_model.specs.declared.schema.Schema.{Schema}
 use Rattle.job_report.specs.declared.work.WorkEnd.{WorkEnd}
 use Rattle.job_report.specs.declared.work.WorkEnd.TheVariants as work_end
@@ -27,6 +27,8 @@ use Rattle.script_runner.specs.Standing.{Carried, StepsCarried, HaltedAt}
 use Rattle.script_runner.specs.Worlds.{World, StandsOn, IsHeld, world_of, state_of, now_of, with_entry, interrupted}
 use Rattle.script_runner.proofs.Standing.{stands_held, up_stands, fell_world, fell_stands}
 use Rattle.script_runner.proofs.Calls.{grew_world, grew_stands}
+use Rattle.delf_book.proofs.RowRecords.{read_rests}
+use Rattle.delf_book.proofs.Owned.{OnDisk, leaves_entry_as, longer_as, sealed_as, damage_as}
 
 -- The steps so far, from a first world on: a book that is up, whose world they lead to, and which rests on its disk.
 pub record SoFar {G R : Type 0} (may_leave : R → Areas → Type 0) (first : World) (made : ℕ) (book : Booked G R) (clock : ℕ) : Type 0 where
@@ -50,24 +52,26 @@ whole : (w : World) (what : What) → PutsSealed (state_of w) what w.payloads �
 whole w what sealed item damaged = damaged.differs (sealed item damaged.logged damaged.puts)
 
 -- one step more was made
-pub stepped : {G R : Type 0} → (at : R → ℕ) (may_leave : R → Areas → Type 0) (left_since : R → ℕ → Areas → Type 0) (first : World) (made : ℕ)
-    (old now : Booked G R) (clock position : ℕ) → Steps old now (moment_of (state_in old) clock) position →
-    StepIsSafe at may_leave left_since old now (moment_of (state_in old) clock) (Ok (worked.Stepped position)) → SoFar may_leave first made old clock →
+pub stepped : {G R : Type 0} → (seen : R → Areas) (at : R → ℕ) (may_leave : R → Areas → Type 0) (left_since : R → ℕ → Areas → Type 0) (first : World) (made : ℕ)
+    (old now : Booked G R) (clock position : ℕ) → OnDisk seen may_leave old → Steps old now (moment_of (state_in old) clock) position →
+    StepIsSafe at may_leave left_since old now (moment_of (state_in old) clock) (Ok (worked.Stepped position)) →
+    StepPayloads old now (moment_of (state_in old) clock) (Ok (worked.Stepped position)) → SoFar may_leave first made old clock →
     SoFar may_leave first (made + 1) now clock
-stepped at may_leave left_since first made old now clock position s safe so_far =
+stepped seen at may_leave left_since first made old now clock position on s safe given so_far =
     let e : Payloads = so_far.payloads in
     let here : World = world_of old clock e in
     let entry : Entry = step_entry (now_of here) s.what in
     let next : Payloads = payloads_after digest (state_of here) entry [] e in
     let is : world_of now clock next ≡ with_entry here s.what [] = grew_world old now clock e next entry s.grew so_far.alone in
-    let stands = grew_stands old now clock next entry (may_leave now.rig) s.grew so_far.alone ((safe s.what s.is_first).1 e so_far.rests) in
+    let stands = grew_stands old now clock next entry (may_leave now.rig) s.grew so_far.alone
+    (longer_as seen at may_leave left_since old now e on s.up so_far.rests entry [] (safe s.what s.is_first).1) in
     record {
       payloads = next;
       begun = so_far.begun;
       steps = one_more first here (world_of now clock next) made so_far.steps (record {
         what = s.what;
         is_first = s.is_first;
-        whole = whole here s.what ((safe s.what s.is_first).2 e so_far.rests);
+        whole = whole here s.what (sealed_as seen at may_leave left_since old now e on s.up so_far.rests s.what (given s.what s.is_first).1);
         is_next = is;
       });
       alone = s.grew.beside ∙ so_far.alone;
@@ -98,11 +102,11 @@ idled {G} {R} may_leave faults n made first before old now clock len below count
       stands = up_stands (world_of old clock so_far.payloads) (may_leave old.rig) idles.up so_far.alone so_far.rests;
     }) count
 
-pub fell : {G R : Type 0} → (at : R → ℕ) (may_leave : R → Areas → Type 0) (left_since : R → ℕ → Areas → Type 0) (faults : R → ℕ) (n made : ℕ) (first : World) (before : ℕ)
-    (old now : Booked G R) (clock len : ℕ) → made < n → Rose before (faults now.rig) → InterruptsStep old now (moment_of (state_in old) clock) len →
+pub fell : {G R : Type 0} → (seen : R → Areas) (at : R → ℕ) (may_leave : R → Areas → Type 0) (left_since : R → ℕ → Areas → Type 0) (faults : R → ℕ) (n made : ℕ) (first : World) (before : ℕ)
+    (old now : Booked G R) (clock len : ℕ) → OnDisk seen may_leave old → made < n → Rose before (faults now.rig) → InterruptsStep old now (moment_of (state_in old) clock) len →
     StepIsSafe at may_leave left_since old now (moment_of (state_in old) clock) (Err (fault.DiskFault len)) → SoFar may_leave first made old clock →
     StepsCarried may_leave faults n first before now clock made (work_end.Down len)
-fell at may_leave left_since faults n made first before old now clock len below rose i safe so_far =
+fell seen at may_leave left_since faults n made first before old now clock len on below rose i safe so_far =
     let e : Payloads = so_far.payloads in
     let here : World = world_of old clock e in
     let beside : Interrupted = interrupted here i.what [] in
@@ -111,17 +115,18 @@ fell at may_leave left_since faults n made first before old now clock len below 
       ends = serial.StepsEnd.Falls here i.what below rose so_far.steps i.is_first (ap (λ (l : ℕ). work_end.Down l) i.length_is)
           (fell_world old now clock e (Some beside) i.fell);
       stands = fell_stands old now clock e (Some beside) (may_leave now.rig) i.fell
-          (λ c image. (safe i.what i.is_first e so_far.rests).now c image);
+          (λ c image. (leaves_entry_as seen at may_leave left_since old now e on i.up so_far.rests beside.entry [] (safe i.what i.is_first)).now c image);
     }
 
-pub met_damage : {G R : Type 0} → (at : R → ℕ) (may_leave : R → Areas → Type 0) (left_since : R → ℕ → Areas → Type 0) (faults : R → ℕ) (n made : ℕ) (first : World) (before : ℕ)
-    (old now : Booked G R) (clock item : ℕ) (stored found : List ℕ) → made < n → faults now.rig ≡ before →
+pub met_damage : {G R : Type 0} → (seen : R → Areas) (at : R → ℕ) (may_leave : R → Areas → Type 0) (left_since : R → ℕ → Areas → Type 0) (faults : R → ℕ) (n made : ℕ) (first : World) (before : ℕ)
+    (old now : Booked G R) (clock item : ℕ) (stored found : List ℕ) → OnDisk seen may_leave old → made < n → faults now.rig ≡ before →
     MeetsDamage old now (moment_of (state_in old) clock) item stored found →
-    StepIsSafe at may_leave left_since old now (moment_of (state_in old) clock) (Err (fault.Damaged item stored found)) → SoFar may_leave first made old clock →
+    StepIsSafe at may_leave left_since old now (moment_of (state_in old) clock) (Err (fault.Damaged item stored found)) →
+    StepPayloads old now (moment_of (state_in old) clock) (Err (fault.Damaged item stored found)) → SoFar may_leave first made old clock →
     StepsCarried may_leave faults n first before now clock made (work_end.Damaged item)
-met_damage {G} {R} at may_leave left_since faults n made first before old now clock item stored found below count m safe so_far =
+met_damage {G} {R} seen at may_leave left_since faults n made first before old now clock item stored found on below count m safe given so_far =
     let e : Payloads = so_far.payloads in
-    let tells = (safe e so_far.rests).1 in
+    let tells = damage_as seen at may_leave left_since old now e on m.up so_far.rests item stored found given in
     let same : world_of now clock e ≡ world_of old clock e = ap (λ (b : Booked G R). world_of b clock e) m.rest in
     let damaged : PutsDamaged (world_of old clock e) m.what item = record {
       logged = m.logged;
@@ -134,7 +139,7 @@ met_damage {G} {R} at may_leave left_since faults n made first before old now cl
       ends = subst (λ (w : World). serial.StepsEnd n first before (faults now.rig) made (work_end.Damaged item) w) (sym same)
           (serial.StepsEnd.MeetsDamage item m.what below count so_far.steps m.is_first damaged refl);
       stands = subst (λ (w : World). StandsOn w (may_leave now.rig)) (sym same)
-          (up_stands (world_of old clock e) (may_leave now.rig) m.up so_far.alone (λ c image. (safe e so_far.rests).0.now c image));
+          (up_stands (world_of old clock e) (may_leave now.rig) m.up so_far.alone (read_rests old.rules old.history e so_far.rests safe));
     }
 
 -- memory was wanting

@@ -40,6 +40,8 @@ pub(crate) fn submit<R: Rig>(
     ensures cause { Falls R.Disk.faults book.old book.new }
 {
     let len = book.len();
+    // What the disk holds.
+    book.standing();
     match book.call(clock, 0, call) {
         Ok(receipt) => accepted_line(alloc, schema, call, &receipt),
         Err(refusal) => refused_line(alloc, schema, &refusal, len),

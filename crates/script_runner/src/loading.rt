@@ -188,6 +188,7 @@ fn finish_load<K: Sink, R: Rig>(alloc: Global, n: u32, store: Store<R>, sink: &m
 {
     let Store { mut book, clock: _ } = store;
     let _len = book.len();
+    book.standing();
     let status = match book.settle() {
         Ok(()) => put_loaded(alloc, n, &book, sink),
         Err(BookFault::Down { len }) => put_down(alloc, len, 0, sink),

@@ -604,6 +604,7 @@ fn finish<K: Sink, R: Rig>(alloc: Global, store: Store<R>, done: u32, sink: &mut
 {
     let Store { mut book, clock: _ } = store;
     let _len = book.len();
+    book.standing();
     let status = match book.settle() {
         Ok(()) => Status::Done,
         Err(BookFault::Down { len }) => Status::Down { len },

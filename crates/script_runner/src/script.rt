@@ -115,6 +115,7 @@ fn make_steps<R: Rig>(
 {
     for made in 0..n {
         let _len = book.len();
+        book.standing();
         match book.work(clock) {
             Ok(Worked::Stepped { .. }) => {}
             Ok(Worked::Idle { .. }) => return Ok((made, WorkEnd::Idle)),
@@ -197,6 +198,8 @@ fn reported<R: Rig>(alloc: Global, book: &mut ProgramBook<R>) -> Result<Bytes, L
     ensures settles { IfOk result (λ text. Plain (R.Disk.told book.old.rig) (R.Disk.honest book.old.rig) → HasSettled R.Disk.may_leave book.new) }
     ensures leaves { LineLeaves R.Disk.told R.Disk.honest R.Disk.may_leave R.Disk.order R.Disk.orders R.Disk.faults book.old book.new result }
 {
+    let _len = book.len();
+    book.standing();
     match book.settle() {
         Ok(()) => {}
         Err(BookFault::DiskFault { len }) => return Err(LineFault::Failed { len }),

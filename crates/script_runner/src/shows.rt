@@ -88,6 +88,8 @@ fn object_payload<R: Rig>(
     ensures bytes { IfOk result (λ n. Tells R.Disk.told R.Disk.honest R.Disk.may_leave book.old (λ w. payload_at w.payloads row.now.at) (take n bytes.new)) }
     ensures leaves { LineLeaves R.Disk.told R.Disk.honest R.Disk.may_leave R.Disk.order R.Disk.orders R.Disk.faults book.old book.new result }
 {
+    let _len = book.len();
+    book.standing();
     match book.read_object(row.id, bytes) {
         // No row has more.
         Ok(size) => Ok((size as usize).min(LIMIT)),
@@ -109,6 +111,8 @@ fn edge_payload<R: Rig>(
     ensures leaves { LineLeaves R.Disk.told R.Disk.honest R.Disk.may_leave R.Disk.order R.Disk.orders R.Disk.faults book.old book.new result }
 {
     let key: EdgeKey = row.key;
+    let _len = book.len();
+    book.standing();
     match book.read_edge(key, bytes) {
         // No row has more.
         Ok(size) => Ok((size as usize).min(LIMIT)),

@@ -1,10 +1,8 @@
-use Rattle.std.proofs.Common.{length, refl, sym, ap, ◌∙◌, subst, arith}
+use Rattle.std.proofs.Common.{length, refl, sym, ap, ◌∙◌, arith}
 use Rattle.delf_model.specs.declared.rows.Item.{Item}
 use Rattle.delf_model.specs.State.{start, position_of}
 use Rattle.delf_model.specs.Payloads.{payload_at}
 use Rattle.delf_model.specs.Step.{after}
-use Rattle.gate_log.specs.Records.{payload_of}
-use Rattle.store_laws.specs.Stores.{journal_of}
 use Rattle.delf_book.specs.Keeping.{payloads_in}
 use Rattle.delf_book.proofs.Sizes.{journal_in, length_journal_sizes}
 use Rattle.delf_book.proofs.Taking.{carried_at, sized_at}

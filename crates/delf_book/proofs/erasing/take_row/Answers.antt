@@ -3,7 +3,6 @@ use Rattle.delf_disk.proofs.Flags.{stays_plain, was_plain}
 use Rattle.delf_disk.specs.Areas.{Areas}
 use Rattle.delf_model.specs.Step.{after}
 use Rattle.delete_step.specs.Claims.{ClaimView}
-use Rattle.held_laws.specs.Held.{would_log}
 use Rattle.std.specs.Prelude.{Some}
 use Rattle.delf_book.specs.Claims.{IsRead}
 use Rattle.delf_book.specs.Keeping.{payloads_in}

@@ -1,4 +1,4 @@
-use Rattle.std.proofs.Common.{ℕ, List, [], ◌∷◌, ◌++◌, length, sym, ap, ◌∙◌, subst}
+use Rattle.std.proofs.Common.{ℕ, List, [], ◌∷◌, ◌++◌, sym, ap, ◌∙◌, subst}
 use Rattle.std.specs.Prelude.{map}
 use Rattle.delf_disk.proofs.Flags.{stays_plain}
 use Rattle.delf_model.specs.declared.entry.Entry.{Entry}

@@ -1,17 +1,16 @@
 use Rattle.std.proofs.Common.{List, [], Err, sym, subst}
 use Rattle.delf_disk.specs.Plain.{Plain}
-use Rattle.delf_disk.specs.Moments.{Leaves}
+use Rattle.delf_disk.specs.Images.{Same}
+use Rattle.delf_disk.specs.Moments.{Runs}
 use Rattle.delf_disk.proofs.Flags.{was_plain}
 use Rattle.vault.specs.declared.fault.FetchFault.{FetchFault}
 use Rattle.delf_model.specs.declared.entry.Entry.{Entry}
 use Rattle.delf_model.specs.RuleSet.{RuleSet}
 use Rattle.delf_model.specs.Step.{after}
-use Rattle.delf_model.specs.Payloads.{Payloads}
 use Rattle.store_laws.specs.Moves.{RestIn}
 use Rattle.delf_book.specs.Claims.{room_for}
 use Rattle.delf_book.specs.Stepping.{TellsWhy, IfDamaged}
 use Rattle.delf_book.specs.Steps.{TellsDamage}
-use Rattle.delf_book.specs.Writing.{Rests}
 use Rattle.delf_book.specs.Books.{IsCrashSafe, IsDurable}
 use Rattle.delf_book.proofs.Halts.{if_hurt}
 use Rattle.delf_book.proofs.Plainly.{at_ledger}
@@ -33,12 +32,9 @@ returns-in_err-make_step-clause-damaged g c =
 
 pub returns-in_err-make_step-clause-only_read : goal.returns-in_err-make_step-clause-only_read
 returns-in_err-make_step-clause-only_read g c =
-    let same = c.ready_step.ensures.ledger in
-    if_hurt c.in_err-make_step.field-0.0 c.from_residual-in_err-make_step.result c.from_residual-in_err-make_step.ensures.1 (λ item stored found is plain e.
-    at_ledger (λ (r : RuleSet) (h : List Entry). RestIn r h e (g.D.Disk.may_leave c.args.disk.now) → Leaves g.D.Disk.moment g.D.Disk.may_leave g.D.Disk.left_since (Rests r h e) c.args.disk.now c.make_step.new.disk)
-    _ _ _ _ (sym same.rules) (sym same.history)
-    (subst (λ (f : FetchFault). IfDamaged {T = Unit {0}} (Err f) (Plain (g.D.Disk.told c.args.disk.now) (g.D.Disk.honest c.args.disk.now) → (o : Payloads) → RestIn c.ready_step.new.ledger.rules c.ready_step.new.ledger.history o (g.D.Disk.may_leave c.args.disk.now) →
-    Leaves g.D.Disk.moment g.D.Disk.may_leave g.D.Disk.left_since (Rests c.ready_step.new.ledger.rules c.ready_step.new.ledger.history o) c.args.disk.now c.make_step.new.disk)) is c.in_err-make_step.ensures.only_read plain e))
+    if_hurt c.in_err-make_step.field-0.0 c.from_residual-in_err-make_step.result c.from_residual-in_err-make_step.ensures.1 (λ item stored found is.
+    subst (λ (f : FetchFault). IfDamaged {T = Unit {0}} (Err f) (Plain (g.D.Disk.told c.args.disk.now) (g.D.Disk.honest c.args.disk.now) →
+    Runs g.D.Disk.moment g.D.Disk.may_leave g.D.Disk.left_since Same c.args.disk.now c.make_step.new.disk)) is c.in_err-make_step.ensures.only_read)
 
 pub returns-clause-crash : goal.returns-clause-crash
 returns-clause-crash g c = λ plain.

@@ -1,5 +1,6 @@
 use Rattle.std.proofs.Common.{ℕ, inl, inr, sym, ap, subst}
 use Rattle.delf_disk.specs.Causes.{Rose}
+use Rattle.delf_book.proofs.Owned.{still_as}
 use Rattle.script_runner.proofs.Endings.{put_ended, down_ended}
 use Rattle.script_runner.proofs.LoadSteps.{loaded_end, was_down_end, fell_load}
 use Rattle.script_runner.proofs.loading.finish_load.Goals.{in-Ok, in-Err-Down, in-Err-DiskFault}
@@ -14,7 +15,8 @@ returns-clause-text g c = λ told plain e stands.
           let at = w.in-Ok in
           loaded_end g.R.Disk.may_leave g.R.Disk.faults c.args.n old c.settle.new.self c.into_disk.result clock e _ _ w.put_loaded-status.result c.into_disk.ensures
           at.ensures.answer.1 c.len-len.ensures.legal at.ensures.answer.0 at.ensures.cause (at.ensures.settled plain)
-          (λ d image. (at.ensures.crash plain at.ensures.answer.0 e (stands.rests at.ensures.answer.0)).now d image) stands (w.put_loaded-status.ensures.text told)))
+          (still_as g.R.Disk.seen g.R.Disk.moment g.R.Disk.may_leave g.R.Disk.left_since old c.settle.new.self e
+          (record { legal = c.len-len.ensures.legal; image = g.met.R.Disk.reads_as_image old.rig plain; holds = c.standing.ensures.holds plain }) at.ensures.answer.0 (stands.rests at.ensures.answer.0) (at.ensures.crash plain at.ensures.answer.0)) stands (w.put_loaded-status.ensures.text told)))
       | in-Err-Down w ↦ rw w.status-is (rw w.sink-is (
           let at = w.in-Err-Down in
           let answer = rw at.field-0-is at at.ensures.answer in
@@ -25,7 +27,8 @@ returns-clause-text g c = λ told plain e stands.
           let answer = rw at.field-0-is at at.ensures.answer in
           let cause = rw at.field-0-is at at.ensures.cause in
           fell_load g.R.Disk.may_leave g.R.Disk.faults c.args.n old c.settle.new.self.rig c.into_disk.result clock at.len e _ _ _ w.put_down-status-in-Err-DiskFault.result c.into_disk.ensures
-          c.len-len.ensures.legal answer.0 cause.0 cause.1 answer.2 (λ d image. (at.ensures.crash plain answer.0 e (stands.rests answer.0)).now d image) stands
+          c.len-len.ensures.legal answer.0 cause.0 cause.1 answer.2 (still_as g.R.Disk.seen g.R.Disk.moment g.R.Disk.may_leave g.R.Disk.left_since old c.settle.new.self e
+          (record { legal = c.len-len.ensures.legal; image = g.met.R.Disk.reads_as_image old.rig plain; holds = c.standing.ensures.holds plain }) answer.0 (stands.rests answer.0) (at.ensures.crash plain answer.0)) stands
           (w.put_down-status-in-Err-DiskFault.ensures.text told) w.put_down-status-in-Err-DiskFault.ensures.cause))
     ]
 

@@ -33,8 +33,9 @@ returns-in-Err-DiskFault-clause-steps g c = λ plain e stands.
     inv.kind.tells inv.kind.keeps_word plain in
     let at = c.in-Err-DiskFault in
     let counts = rw at.field-0-is at at.ensures.cause in
-    fell g.R.Disk.moment g.R.Disk.may_leave g.R.Disk.left_since g.R.Disk.faults c.args.n c.loop-made.made (world_of c.args.book.now c.args.clock e)
-    (g.R.Disk.faults c.args.book.now.rig) book c.work.new.self c.args.clock at.len (omega arith)
+    fell g.R.Disk.seen g.R.Disk.moment g.R.Disk.may_leave g.R.Disk.left_since g.R.Disk.faults c.args.n c.loop-made.made (world_of c.args.book.now c.args.clock e)
+    (g.R.Disk.faults c.args.book.now.rig) book c.work.new.self c.args.clock at.len
+    (record { legal = c.len-len.ensures.legal; image = g.met.R.Disk.reads_as_image c.loop-made.book.rig next; holds = c.standing.ensures.holds next }) (omega arith)
     (subst (λ (k : ℕ). Rose k (g.R.Disk.faults c.work.new.self.rig)) inv.count counts.1)
     (rw at.field-0-is at at.ensures.answer) (rw at.field-0-is at (at.ensures.crash next)) (inv.so_far plain e stands)
 
@@ -45,10 +46,11 @@ returns-in-Err-Damaged-clause-steps g c = λ plain e stands.
     let next = plain_then (g.R.Disk.told c.args.book.now.rig) (g.R.Disk.honest c.args.book.now.rig) (g.R.Disk.told book.rig) (g.R.Disk.honest book.rig)
     inv.kind.tells inv.kind.keeps_word plain in
     let at = c.in-Err-Damaged in
-    met_damage g.R.Disk.moment g.R.Disk.may_leave g.R.Disk.left_since g.R.Disk.faults c.args.n c.loop-made.made (world_of c.args.book.now c.args.clock e)
-    (g.R.Disk.faults c.args.book.now.rig) book c.work.new.self c.args.clock at.item at.field-0-1 at.field-0-2 (omega arith)
+    met_damage g.R.Disk.seen g.R.Disk.moment g.R.Disk.may_leave g.R.Disk.left_since g.R.Disk.faults c.args.n c.loop-made.made (world_of c.args.book.now c.args.clock e)
+    (g.R.Disk.faults c.args.book.now.rig) book c.work.new.self c.args.clock at.item at.field-0-1 at.field-0-2
+    (record { legal = c.len-len.ensures.legal; image = g.met.R.Disk.reads_as_image c.loop-made.book.rig next; holds = c.standing.ensures.holds next }) (omega arith)
     ((rw at.field-0-is at at.ensures.cause) ∙ inv.count)
-    (rw at.field-0-is at at.ensures.answer) (rw at.field-0-is at (at.ensures.crash next)) (inv.so_far plain e stands)
+    (rw at.field-0-is at at.ensures.answer) (rw at.field-0-is at (at.ensures.crash next)) (rw at.field-0-is at (at.ensures.payloads next)) (inv.so_far plain e stands)
 
 pub loop-made-preserved : goal.loop-made-preserved
 loop-made-preserved g c =
@@ -64,6 +66,8 @@ loop-made-preserved g c =
       so_far = λ plain e stands.
           let next = plain_then (g.R.Disk.told c.args.book.now.rig) (g.R.Disk.honest c.args.book.now.rig) (g.R.Disk.told c.loop-made.book.rig) (g.R.Disk.honest c.loop-made.book.rig)
           inv.kind.tells inv.kind.keeps_word plain in
-          stepped g.R.Disk.moment g.R.Disk.may_leave g.R.Disk.left_since (world_of c.args.book.now c.args.clock e) c.loop-made.made
-          c.loop-made.book c.work.new.self c.args.clock at.field-0-0 answer (rw at.field-0-is at (at.ensures.crash next)) (inv.so_far plain e stands);
+          stepped g.R.Disk.seen g.R.Disk.moment g.R.Disk.may_leave g.R.Disk.left_since (world_of c.args.book.now c.args.clock e) c.loop-made.made
+          c.loop-made.book c.work.new.self c.args.clock at.field-0-0
+          (record { legal = c.len-len.ensures.legal; image = g.met.R.Disk.reads_as_image c.loop-made.book.rig next; holds = c.standing.ensures.holds next })
+          answer (rw at.field-0-is at (at.ensures.crash next)) (rw at.field-0-is at (at.ensures.payloads next)) (inv.so_far plain e stands);
     }

@@ -15,9 +15,10 @@ use Rattle.delf_disk.specs.Plain.{Plain}
 use Rattle.delf_model.specs.RuleSet.{RuleSet}
 use Rattle.delf_book.proofs.Claiming.{claims_same, claims_entered, read_same, read_entered}
 use Rattle.delf_model.specs.Room.{greatest_moment, moment_of}
-use Rattle.delf_book.specs.Books.{Booked, state_in, given_by, IsDurable, CountsEntry}
-use Rattle.delf_book.proofs.Callings.{entry_here, call_safe, call_durable, call_brings, call_seals}
-use Rattle.delf_book.proofs.Whole.{seals_stay}
+use Rattle.delf_book.specs.Books.{Booked, state_in, given_by, IsDurable, LeavesEntry, RestsLonger, CountsEntry}
+use Rattle.delf_book.specs.Seals.{StaysSealed}
+use Rattle.delf_book.proofs.Callings.{entry_here, of_reply}
+use Rattle.delf_book.proofs.Whole.{stays_sealed}
 use Rattle.delf_book.proofs.book.Book.call.Goals as goal
 
 pub enter-requires-clause-bounded : goal.enter-requires-clause-bounded
@@ -75,46 +76,71 @@ enter-requires-clause-free g c =
     entry.unheld c.self.inside.ledger.held
 
 pub returns-in-Ok-clause-crash : goal.returns-in-Ok-clause-crash
-returns-in-Ok-clause-crash g c = λ plain what is.
+returns-in-Ok-clause-crash g c = λ plain.
     let view : Booked g.row.G.Denot g.row.R.Denot = (record { rules = c.self.inside.ledger.rules; history = c.self.inside.ledger.history; payloads = payloads_in (after c.self.inside.ledger.rules c.self.inside.ledger.history) (g.R.Disk.seen c.self.inside.rested.value); store = c.self.inside.ledger.store; held = c.self.inside.claims.items; spare = c.self.inside.spare; down = c.self.inside.down; beside = c.self.inside.beside; rig = c.self.inside.rig; opened = c.self.inside.opened.value }) in
     let m_is : c.moment_at-moment.result ≡ moment_of (state_in view) c.args.now =
     c.moment_at-moment.ensures ∙ ap (λ (k : ℕ). max k (min c.args.now greatest_moment)) c.moment.ensures.value in
     let here : Plain (g.R.Disk.told c.self.inside.rig) (g.R.Disk.honest c.self.inside.rig) =
-    subst (λ (b : Booked g.row.G.Denot g.row.R.Denot). Plain (g.R.Disk.told b.rig) (g.R.Disk.honest b.rig)) (sym c.self.view_is) plain in (
-      call_safe view c.args.self.now c.self.view_is c.args.now c.args.seat c.args.call.now c.moment_at-moment.result m_is c.in_ok-what.what c.in_ok-what.ensures.reply c.payload_of-payload.result.now c.payload_of-payload.ensures c.enter.new.disk g.R.Disk.moment g.R.Disk.may_leave g.R.Disk.left_since (c.enter.ensures.crash here) what is,
-      call_durable view c.args.self.now c.self.view_is c.args.now c.args.seat c.args.call.now c.moment_at-moment.result m_is c.in_ok-what.what c.in_ok-what.ensures.reply c.payload_of-payload.result.now c.payload_of-payload.ensures c.enter.new.disk g.R.Disk.may_leave (c.in-Ok.ensures.durable here) what is,
-    )
+    subst (λ (b : Booked g.row.G.Denot g.row.R.Denot). Plain (g.R.Disk.told b.rig) (g.R.Disk.honest b.rig)) (sym c.self.view_is) plain in
+    let l = c.self.inside.ledger in
+    let e = payloads_in (after l.rules l.history) (g.R.Disk.seen c.self.inside.rested.value) in
+    let rests = rests_with l.rules l.history e c.self.inside.down (g.R.Disk.seen c.self.inside.rig) (g.R.Disk.seen c.self.inside.opened.value) c.if-self.false (c.self.invariant.3 here)
+    (g.R.Disk.may_leave c.self.inside.rig) ((c.self.invariant.0 c.if-self.false).areas here).rests in
+    let entry : Entry = record { moment = c.moment_at-moment.result; what = c.in_ok-what.what } in
+    of_reply view c.args.self.now c.self.view_is c.args.now c.args.seat c.args.call.now c.moment_at-moment.result m_is c.in_ok-what.what c.in_ok-what.ensures.reply
+    (λ (b : Booked g.row.G.Denot g.row.R.Denot) (x : Entry). LeavesEntry g.R.Disk.moment g.R.Disk.may_leave g.R.Disk.left_since b x (given_by c.args.call.now) c.enter.new.disk × RestsLonger g.R.Disk.may_leave b x (given_by c.args.call.now) c.enter.new.disk)
+    (subst (λ (p : List ℕ). LeavesEntry g.R.Disk.moment g.R.Disk.may_leave g.R.Disk.left_since view entry p c.enter.new.disk × RestsLonger g.R.Disk.may_leave view entry p c.enter.new.disk) c.payload_of-payload.ensures
+    (c.enter.ensures.crash here e rests, c.in-Ok.ensures.durable here e rests))
 
 pub returns-in-Err-Failed-clause-crash : goal.returns-in-Err-Failed-clause-crash
-returns-in-Err-Failed-clause-crash g c = λ plain what is.
+returns-in-Err-Failed-clause-crash g c = λ plain.
     let view : Booked g.row.G.Denot g.row.R.Denot = (record { rules = c.self.inside.ledger.rules; history = c.self.inside.ledger.history; payloads = payloads_in (after c.self.inside.ledger.rules c.self.inside.ledger.history) (g.R.Disk.seen c.self.inside.rested.value); store = c.self.inside.ledger.store; held = c.self.inside.claims.items; spare = c.self.inside.spare; down = c.self.inside.down; beside = c.self.inside.beside; rig = c.self.inside.rig; opened = c.self.inside.opened.value }) in
     let m_is : c.moment_at-moment.result ≡ moment_of (state_in view) c.args.now =
     c.moment_at-moment.ensures ∙ ap (λ (k : ℕ). max k (min c.args.now greatest_moment)) c.moment.ensures.value in
     let here : Plain (g.R.Disk.told c.self.inside.rig) (g.R.Disk.honest c.self.inside.rig) =
     subst (λ (b : Booked g.row.G.Denot g.row.R.Denot). Plain (g.R.Disk.told b.rig) (g.R.Disk.honest b.rig)) (sym c.self.view_is) plain in
-    call_safe view c.args.self.now c.self.view_is c.args.now c.args.seat c.args.call.now c.moment_at-moment.result m_is c.in_ok-what.what c.in_ok-what.ensures.reply c.payload_of-payload.result.now c.payload_of-payload.ensures c.enter.new.disk g.R.Disk.moment g.R.Disk.may_leave g.R.Disk.left_since (c.enter.ensures.crash here) what is
+    let l = c.self.inside.ledger in
+    let e = payloads_in (after l.rules l.history) (g.R.Disk.seen c.self.inside.rested.value) in
+    let rests = rests_with l.rules l.history e c.self.inside.down (g.R.Disk.seen c.self.inside.rig) (g.R.Disk.seen c.self.inside.opened.value) c.if-self.false (c.self.invariant.3 here)
+    (g.R.Disk.may_leave c.self.inside.rig) ((c.self.invariant.0 c.if-self.false).areas here).rests in
+    let entry : Entry = record { moment = c.moment_at-moment.result; what = c.in_ok-what.what } in
+    of_reply view c.args.self.now c.self.view_is c.args.now c.args.seat c.args.call.now c.moment_at-moment.result m_is c.in_ok-what.what c.in_ok-what.ensures.reply
+    (λ (b : Booked g.row.G.Denot g.row.R.Denot) (x : Entry). LeavesEntry g.R.Disk.moment g.R.Disk.may_leave g.R.Disk.left_since b x (given_by c.args.call.now) c.enter.new.disk)
+    (subst (λ (p : List ℕ). LeavesEntry g.R.Disk.moment g.R.Disk.may_leave g.R.Disk.left_since view entry p c.enter.new.disk) c.payload_of-payload.ensures (c.enter.ensures.crash here e rests))
 
 pub returns-in-Ok-clause-seals : goal.returns-in-Ok-clause-seals
-returns-in-Ok-clause-seals g c = λ plain what is.
+returns-in-Ok-clause-seals g c = λ plain.
     let view : Booked g.row.G.Denot g.row.R.Denot = (record { rules = c.self.inside.ledger.rules; history = c.self.inside.ledger.history; payloads = payloads_in (after c.self.inside.ledger.rules c.self.inside.ledger.history) (g.R.Disk.seen c.self.inside.rested.value); store = c.self.inside.ledger.store; held = c.self.inside.claims.items; spare = c.self.inside.spare; down = c.self.inside.down; beside = c.self.inside.beside; rig = c.self.inside.rig; opened = c.self.inside.opened.value }) in
     let m_is : c.moment_at-moment.result ≡ moment_of (state_in view) c.args.now =
     c.moment_at-moment.ensures ∙ ap (λ (k : ℕ). max k (min c.args.now greatest_moment)) c.moment.ensures.value in
     let here : Plain (g.R.Disk.told c.self.inside.rig) (g.R.Disk.honest c.self.inside.rig) =
     subst (λ (b : Booked g.row.G.Denot g.row.R.Denot). Plain (g.R.Disk.told b.rig) (g.R.Disk.honest b.rig)) (sym c.self.view_is) plain in
-    call_seals view c.args.self.now c.self.view_is c.args.now c.args.seat c.args.call.now c.moment_at-moment.result m_is c.in_ok-what.what c.in_ok-what.ensures.reply g.R.Disk.may_leave
-    (seals_stay g.R.Disk.may_leave view.rules view.history (record { moment = c.moment_at-moment.result; what = c.in_ok-what.what }) (given_by c.args.call.now) c.self.inside.rig
-    (g.R.Disk.seen c.self.inside.rig) (g.met.R.Disk.reads_as_image c.self.inside.rig here) c.len-len.ensures.legal c.in_ok-what.ensures.legal) what is
+    let l = c.self.inside.ledger in
+    let e = payloads_in (after l.rules l.history) (g.R.Disk.seen c.self.inside.rested.value) in
+    let rests = rests_with l.rules l.history e c.self.inside.down (g.R.Disk.seen c.self.inside.rig) (g.R.Disk.seen c.self.inside.opened.value) c.if-self.false (c.self.invariant.3 here)
+    (g.R.Disk.may_leave c.self.inside.rig) ((c.self.invariant.0 c.if-self.false).areas here).rests in
+    let entry : Entry = record { moment = c.moment_at-moment.result; what = c.in_ok-what.what } in
+    of_reply view c.args.self.now c.self.view_is c.args.now c.args.seat c.args.call.now c.moment_at-moment.result m_is c.in_ok-what.what c.in_ok-what.ensures.reply
+    (λ (b : Booked g.row.G.Denot g.row.R.Denot) (x : Entry). StaysSealed b x (given_by c.args.call.now))
+    (stays_sealed l.rules l.history e entry (given_by c.args.call.now) (g.R.Disk.seen c.self.inside.rig) (g.R.Disk.may_leave c.self.inside.rig)
+    (g.met.R.Disk.reads_as_image c.self.inside.rig here) c.len-len.ensures.legal c.in_ok-what.ensures.legal rests)
 
 pub returns-in-Err-Failed-clause-seals : goal.returns-in-Err-Failed-clause-seals
-returns-in-Err-Failed-clause-seals g c = λ plain what is.
+returns-in-Err-Failed-clause-seals g c = λ plain.
     let view : Booked g.row.G.Denot g.row.R.Denot = (record { rules = c.self.inside.ledger.rules; history = c.self.inside.ledger.history; payloads = payloads_in (after c.self.inside.ledger.rules c.self.inside.ledger.history) (g.R.Disk.seen c.self.inside.rested.value); store = c.self.inside.ledger.store; held = c.self.inside.claims.items; spare = c.self.inside.spare; down = c.self.inside.down; beside = c.self.inside.beside; rig = c.self.inside.rig; opened = c.self.inside.opened.value }) in
     let m_is : c.moment_at-moment.result ≡ moment_of (state_in view) c.args.now =
     c.moment_at-moment.ensures ∙ ap (λ (k : ℕ). max k (min c.args.now greatest_moment)) c.moment.ensures.value in
     let here : Plain (g.R.Disk.told c.self.inside.rig) (g.R.Disk.honest c.self.inside.rig) =
     subst (λ (b : Booked g.row.G.Denot g.row.R.Denot). Plain (g.R.Disk.told b.rig) (g.R.Disk.honest b.rig)) (sym c.self.view_is) plain in
-    call_seals view c.args.self.now c.self.view_is c.args.now c.args.seat c.args.call.now c.moment_at-moment.result m_is c.in_ok-what.what c.in_ok-what.ensures.reply g.R.Disk.may_leave
-    (seals_stay g.R.Disk.may_leave view.rules view.history (record { moment = c.moment_at-moment.result; what = c.in_ok-what.what }) (given_by c.args.call.now) c.self.inside.rig
-    (g.R.Disk.seen c.self.inside.rig) (g.met.R.Disk.reads_as_image c.self.inside.rig here) c.len-len.ensures.legal c.in_ok-what.ensures.legal) what is
+    let l = c.self.inside.ledger in
+    let e = payloads_in (after l.rules l.history) (g.R.Disk.seen c.self.inside.rested.value) in
+    let rests = rests_with l.rules l.history e c.self.inside.down (g.R.Disk.seen c.self.inside.rig) (g.R.Disk.seen c.self.inside.opened.value) c.if-self.false (c.self.invariant.3 here)
+    (g.R.Disk.may_leave c.self.inside.rig) ((c.self.invariant.0 c.if-self.false).areas here).rests in
+    let entry : Entry = record { moment = c.moment_at-moment.result; what = c.in_ok-what.what } in
+    of_reply view c.args.self.now c.self.view_is c.args.now c.args.seat c.args.call.now c.moment_at-moment.result m_is c.in_ok-what.what c.in_ok-what.ensures.reply
+    (λ (b : Booked g.row.G.Denot g.row.R.Denot) (x : Entry). StaysSealed b x (given_by c.args.call.now))
+    (stays_sealed l.rules l.history e entry (given_by c.args.call.now) (g.R.Disk.seen c.self.inside.rig) (g.R.Disk.may_leave c.self.inside.rig)
+    (g.met.R.Disk.reads_as_image c.self.inside.rig here) c.len-len.ensures.legal c.in_ok-what.ensures.legal rests)
 
 pub returns-in-Ok-clause-payloads : goal.returns-in-Ok-clause-payloads
 returns-in-Ok-clause-payloads g c = λ plain.
@@ -132,8 +158,8 @@ returns-in-Ok-clause-payloads g c = λ plain.
     let entry : Entry = record { moment = c.moment_at-moment.result; what = c.in_ok-what.what } in
     let longer : List Entry = l.history ++ entry ∷ [] in
     let line = c.in_ok-what.ensures.legal in
-    call_brings view c.args.self.now c.self.view_is c.args.now c.args.seat c.args.call.now c.moment_at-moment.result m_is c.in_ok-what.what c.in_ok-what.ensures.reply
-    (payloads_in (after now.rules now.history) (g.R.Disk.seen c.of-rested.result.value))
+    of_reply view c.args.self.now c.self.view_is c.args.now c.args.seat c.args.call.now c.moment_at-moment.result m_is c.in_ok-what.what c.in_ok-what.ensures.reply
+    (λ (b : Booked g.row.G.Denot g.row.R.Denot) (x : Entry). payloads_in (after now.rules now.history) (g.R.Disk.seen c.of-rested.result.value) ≡ payloads_after digest (state_in b) x (given_by c.args.call.now) b.payloads)
     (at_ledger (λ (r : RuleSet) (h : List Entry). payloads_in (after r h) (g.R.Disk.seen c.of-rested.result.value) ≡ payloads_after digest (after l.rules l.history) entry (given_by c.args.call.now) e)
     l.rules now.rules longer now.history c.in-Ok.ensures.ok.rules c.in-Ok.ensures.ok.history
     (subst (λ (x : g.row.R.Denot). payloads_in (after l.rules longer) (g.R.Disk.seen x) ≡ payloads_after digest (after l.rules l.history) entry (given_by c.args.call.now) e) (sym c.of-rested.ensures)

@@ -15,8 +15,8 @@ use Rattle.job_table.specs.Table.{given_up}
 use Rattle.ledger.proofs.Holding.{are_held_less}
 use Rattle.ledger.specs.Ledgers.{Ledgered, state_of}
 use Rattle.store_laws.specs.Stores.{digest}
-use Rattle.delf_book.specs.Books.{Booked, state_in, IsCrashSafe, IsDurable}
-use Rattle.delf_book.specs.Begun.{StaysSealed}
+use Rattle.delf_book.specs.Books.{Booked, state_in, IsCrashSafe, IsDurable, LeavesEntry, RestsLonger}
+use Rattle.delf_book.specs.Seals.{StaysSealed}
 use Rattle.delf_book.specs.Claims.{room_for, taken_by, step_of, steps_of, without, IsRead, AreRead}
 use Rattle.delf_book.specs.Keeping.{HasRoom, KeepsDown, KeepsPayloads, payloads_in}
 use Rattle.delf_book.specs.Steps.{step_entry}
@@ -25,7 +25,7 @@ use Rattle.delf_book.proofs.Fallen.{fell_beside}
 use Rattle.delf_book.proofs.Finishing.{finish_line, of_claim, without_one}
 use Rattle.delf_book.proofs.Payloads.{rests_with, grew_by, keeps_longer, keeps_fallen, opening_still, opening_fell}
 use Rattle.delf_book.proofs.Plainly.{at_ledger}
-use Rattle.delf_book.proofs.Whole.{seals_stay}
+use Rattle.delf_book.proofs.Whole.{stays_sealed}
 use Rattle.delf_book.proofs.book.Book.finish.Goals as goal
 
 pub give_up-requires : goal.give_up-requires
@@ -221,6 +221,9 @@ returns-in-Ok-clause-crash g c = λ plain.
     let here : Plain (g.R.Disk.told c.self.inside.rig) (g.R.Disk.honest c.self.inside.rig) =
     subst (λ (b : Booked g.row.G.Denot g.row.R.Denot). Plain (g.R.Disk.told b.rig) (g.R.Disk.honest b.rig)) (sym c.self.view_is) plain in
     let l = c.self.inside.ledger in
+    let e = payloads_in (after l.rules l.history) (g.R.Disk.seen c.self.inside.rested.value) in
+    let rests = rests_with l.rules l.history e c.self.inside.down (g.R.Disk.seen c.self.inside.rig) (g.R.Disk.seen c.self.inside.opened.value) c.if-self.false (c.self.invariant.3 here)
+    (g.R.Disk.may_leave c.self.inside.rig) ((c.self.invariant.0 c.if-self.false).areas here).rests in
     let step : c.taken_by-what.result ≡ step_of c.args.prepared = c.taken_by-what.ensures ∙ ap taken_by (c.item.ensures.item ∙ ap (λ (x : ClaimView). x.item) c.claim.ensures) in
     let m_now : c.moment.result ≡ (after l.rules l.history).moment = c.moment.ensures.value ∙ ap (λ (x : Ledgered g.row.G.Denot). (state_of x).moment) c.give_up.ensures.same in
     let m_is : c.moment_at.result ≡ moment_of (after l.rules l.history) c.args.now = c.moment_at.ensures ∙ ap (λ (k : ℕ). max k (min c.args.now greatest_moment)) m_now in
@@ -230,8 +233,7 @@ returns-in-Ok-clause-crash g c = λ plain.
     let durable = subst (λ (x : Ledgered g.row.G.Denot). IsDurable g.R.Disk.may_leave x.rules x.history entry [] c.self.inside.rig c.write_taken.new.disk) c.give_up.ensures.same (c.in-Ok.ensures.durable here) in
     of_claim view c.args.self.now c.self.view_is c.args.now c.moment_at.result m_is c.taken_by-what.result (step_of c.args.prepared) step
     (λ (b : Booked g.row.G.Denot g.row.R.Denot) (k : ℕ) (w : What).
-    IsCrashSafe g.R.Disk.moment g.R.Disk.may_leave g.R.Disk.left_since b.rules b.history (step_entry k w) [] b.rig c.write_taken.new.disk ×
-    IsDurable g.R.Disk.may_leave b.rules b.history (step_entry k w) [] b.rig c.write_taken.new.disk) (crash, durable)
+    LeavesEntry g.R.Disk.moment g.R.Disk.may_leave g.R.Disk.left_since b (step_entry k w) [] c.write_taken.new.disk × RestsLonger g.R.Disk.may_leave b (step_entry k w) [] c.write_taken.new.disk) (crash e rests, durable e rests)
 
 pub returns-in-Err-clause-crash : goal.returns-in-Err-clause-crash
 returns-in-Err-clause-crash g c = λ plain.
@@ -239,6 +241,9 @@ returns-in-Err-clause-crash g c = λ plain.
     let here : Plain (g.R.Disk.told c.self.inside.rig) (g.R.Disk.honest c.self.inside.rig) =
     subst (λ (b : Booked g.row.G.Denot g.row.R.Denot). Plain (g.R.Disk.told b.rig) (g.R.Disk.honest b.rig)) (sym c.self.view_is) plain in
     let l = c.self.inside.ledger in
+    let e = payloads_in (after l.rules l.history) (g.R.Disk.seen c.self.inside.rested.value) in
+    let rests = rests_with l.rules l.history e c.self.inside.down (g.R.Disk.seen c.self.inside.rig) (g.R.Disk.seen c.self.inside.opened.value) c.if-self.false (c.self.invariant.3 here)
+    (g.R.Disk.may_leave c.self.inside.rig) ((c.self.invariant.0 c.if-self.false).areas here).rests in
     let step : c.taken_by-what.result ≡ step_of c.args.prepared = c.taken_by-what.ensures ∙ ap taken_by (c.item.ensures.item ∙ ap (λ (x : ClaimView). x.item) c.claim.ensures) in
     let m_now : c.moment.result ≡ (after l.rules l.history).moment = c.moment.ensures.value ∙ ap (λ (x : Ledgered g.row.G.Denot). (state_of x).moment) c.give_up.ensures.same in
     let m_is : c.moment_at.result ≡ moment_of (after l.rules l.history) c.args.now = c.moment_at.ensures ∙ ap (λ (k : ℕ). max k (min c.args.now greatest_moment)) m_now in
@@ -247,7 +252,7 @@ returns-in-Err-clause-crash g c = λ plain.
     let crash = subst (λ (x : Ledgered g.row.G.Denot). IsCrashSafe g.R.Disk.moment g.R.Disk.may_leave g.R.Disk.left_since x.rules x.history entry [] c.self.inside.rig c.write_taken.new.disk) c.give_up.ensures.same (c.write_taken.ensures.crash here) in
     of_claim view c.args.self.now c.self.view_is c.args.now c.moment_at.result m_is c.taken_by-what.result (step_of c.args.prepared) step
     (λ (b : Booked g.row.G.Denot g.row.R.Denot) (k : ℕ) (w : What).
-    IsCrashSafe g.R.Disk.moment g.R.Disk.may_leave g.R.Disk.left_since b.rules b.history (step_entry k w) [] b.rig c.write_taken.new.disk) crash
+    LeavesEntry g.R.Disk.moment g.R.Disk.may_leave g.R.Disk.left_since b (step_entry k w) [] c.write_taken.new.disk) (crash e rests)
 
 pub returns-in-Ok-clause-seals : goal.returns-in-Ok-clause-seals
 returns-in-Ok-clause-seals g c = λ plain.
@@ -268,8 +273,8 @@ returns-in-Ok-clause-seals g c = λ plain.
     let rests = rests_with l.rules l.history e c.self.inside.down (g.R.Disk.seen c.self.inside.rig) (g.R.Disk.seen c.self.inside.opened.value) c.if-self.false (c.self.invariant.3 here)
     (g.R.Disk.may_leave c.self.inside.rig) areas.rests in
     of_claim view c.args.self.now c.self.view_is c.args.now c.moment_at.result m_is c.taken_by-what.result (step_of c.args.prepared) step
-    (λ (b : Booked g.row.G.Denot g.row.R.Denot) (k : ℕ) (w : What). StaysSealed b (step_entry k w))
-    (seals_stay g.R.Disk.may_leave l.rules l.history entry [] c.self.inside.rig (g.R.Disk.seen c.self.inside.rig) (g.met.R.Disk.reads_as_image c.self.inside.rig here) c.len-len.ensures.legal line e rests)
+    (λ (b : Booked g.row.G.Denot g.row.R.Denot) (k : ℕ) (w : What). StaysSealed b (step_entry k w) [])
+    (stays_sealed l.rules l.history e entry [] (g.R.Disk.seen c.self.inside.rig) (g.R.Disk.may_leave c.self.inside.rig) (g.met.R.Disk.reads_as_image c.self.inside.rig here) c.len-len.ensures.legal line rests)
 
 pub returns-in-Err-clause-seals : goal.returns-in-Err-clause-seals
 returns-in-Err-clause-seals g c = λ plain.
@@ -290,5 +295,5 @@ returns-in-Err-clause-seals g c = λ plain.
     let rests = rests_with l.rules l.history e c.self.inside.down (g.R.Disk.seen c.self.inside.rig) (g.R.Disk.seen c.self.inside.opened.value) c.if-self.false (c.self.invariant.3 here)
     (g.R.Disk.may_leave c.self.inside.rig) areas.rests in
     of_claim view c.args.self.now c.self.view_is c.args.now c.moment_at.result m_is c.taken_by-what.result (step_of c.args.prepared) step
-    (λ (b : Booked g.row.G.Denot g.row.R.Denot) (k : ℕ) (w : What). StaysSealed b (step_entry k w))
-    (seals_stay g.R.Disk.may_leave l.rules l.history entry [] c.self.inside.rig (g.R.Disk.seen c.self.inside.rig) (g.met.R.Disk.reads_as_image c.self.inside.rig here) c.len-len.ensures.legal line e rests)
+    (λ (b : Booked g.row.G.Denot g.row.R.Denot) (k : ℕ) (w : What). StaysSealed b (step_entry k w) [])
+    (stays_sealed l.rules l.history e entry [] (g.R.Disk.seen c.self.inside.rig) (g.R.Disk.may_leave c.self.inside.rig) (g.met.R.Disk.reads_as_image c.self.inside.rig here) c.len-len.ensures.legal line rests)

@@ -8,18 +8,19 @@ use Rattle.delf_book.proofs.Plainly.{at_ledger}
 use Rattle.delf_book.proofs.Fallen.{fell_beside}
 use Rattle.delf_book.specs.Keeping.{KeepsDown, KeepsPayloads, payloads_in}
 use Rattle.delf_book.proofs.Claiming.{claims_same, claims_entered, read_same, read_entered}
-use Rattle.delf_book.proofs.Making.{of_made, of_beside, made_line, made_free, made_seals}
+use Rattle.delf_book.proofs.Making.{of_made, of_beside, made_line, made_free}
 use Rattle.delf_disk.proofs.Flags.{was_plain, stays_plain}
-use Rattle.delf_disk.specs.Moments.{Leaves}
+use Rattle.delf_disk.specs.Images.{Same}
+use Rattle.delf_disk.specs.Moments.{Runs}
 use Rattle.delf_disk.specs.Plain.{Plain}
 use Rattle.delf_model.specs.Step.{after}
 use Rattle.delf_model.specs.Payloads.{Payloads, payloads_after}
 use Rattle.store_laws.specs.Moves.{RestIn}
-use Rattle.delf_book.specs.Books.{Booked, state_in, is_reserved, IsCrashSafe, IsDurable}
+use Rattle.delf_book.specs.Books.{Booked, state_in, is_reserved, LeavesEntry, RestsLonger}
 use Rattle.delf_book.specs.Steps.{PutsSealed, TellsDamage}
-use Rattle.delf_book.specs.Writing.{Rests}
+use Rattle.delf_book.proofs.RowRecords.{read_rests}
 use Rattle.delf_book.proofs.Halts.{at_hurt, waits_hurt}
-use Rattle.delf_book.proofs.Whole.{whole_undamaged}
+use Rattle.delf_book.proofs.Whole.{stays_sealed, whole_undamaged}
 use Rattle.delf_book.specs.Stepping.{PutsBackItem, CountsHalt}
 use Rattle.store_laws.specs.Stores.{digest, AreSealed}
 use Rattle.delf_book.proofs.book.Book.make.Goals as goal
@@ -29,10 +30,14 @@ returns-in-Ok-clause-crash g c = λ plain.
     let view : Booked g.row.G.Denot g.row.R.Denot = (record { rules = c.self.inside.ledger.rules; history = c.self.inside.ledger.history; payloads = payloads_in (after c.self.inside.ledger.rules c.self.inside.ledger.history) (g.R.Disk.seen c.self.inside.rested.value); store = c.self.inside.ledger.store; held = c.self.inside.claims.items; spare = c.self.inside.spare; down = c.self.inside.down; beside = c.self.inside.beside; rig = c.self.inside.rig; opened = c.self.inside.opened.value }) in
     let here : Plain (g.R.Disk.told c.self.inside.rig) (g.R.Disk.honest c.self.inside.rig) =
     subst (λ (b : Booked g.row.G.Denot g.row.R.Denot). Plain (g.R.Disk.told b.rig) (g.R.Disk.honest b.rig)) (sym c.self.view_is) plain in
+    let up : c.self.inside.down ≡ false = subst (λ (b : Booked g.row.G.Denot g.row.R.Denot). b.down ≡ false) (sym c.self.view_is) c.requires.up in
+    let l = c.self.inside.ledger in
+    let e = payloads_in (after l.rules l.history) (g.R.Disk.seen c.self.inside.rested.value) in
+    let rests = rests_with l.rules l.history e c.self.inside.down (g.R.Disk.seen c.self.inside.rig) (g.R.Disk.seen c.self.inside.opened.value) up (c.self.invariant.3 here)
+    (g.R.Disk.may_leave c.self.inside.rig) ((c.self.invariant.0 up).areas here).rests in
     of_made view c.args.self.now c.self.view_is c.args.entry.now c.step.new.ledger.history c.in-Ok.ensures.ok.history
-    (λ (b : Booked g.row.G.Denot g.row.R.Denot) (x : Entry). IsCrashSafe g.R.Disk.moment g.R.Disk.may_leave g.R.Disk.left_since b.rules b.history x [] b.rig c.step.new.disk ×
-    IsDurable g.R.Disk.may_leave b.rules b.history x [] b.rig c.step.new.disk)
-    (c.step.ensures.crash here, c.in-Ok.ensures.durable here)
+    (λ (b : Booked g.row.G.Denot g.row.R.Denot) (x : Entry). LeavesEntry g.R.Disk.moment g.R.Disk.may_leave g.R.Disk.left_since b x [] c.step.new.disk × RestsLonger g.R.Disk.may_leave b x [] c.step.new.disk)
+    (c.step.ensures.crash here e rests, c.in-Ok.ensures.durable here e rests)
 
 pub returns-in-Ok-clause-seals : goal.returns-in-Ok-clause-seals
 returns-in-Ok-clause-seals g c = λ plain.
@@ -48,7 +53,7 @@ returns-in-Ok-clause-seals g c = λ plain.
     (g.R.Disk.may_leave c.self.inside.rig) areas.rests in
     of_made view c.args.self.now c.self.view_is c.args.entry.now c.step.new.ledger.history c.in-Ok.ensures.ok.history
     (λ (b : Booked g.row.G.Denot g.row.R.Denot) (x : Entry). AreSealed b.rules b.history b.payloads → AreSealed b.rules (b.history ++ x ∷ []) (payloads_after digest (state_in b) x [] b.payloads))
-    (made_seals l.rules l.history e c.args.entry.now (g.R.Disk.seen c.self.inside.rig) (g.R.Disk.may_leave c.self.inside.rig) (g.met.R.Disk.reads_as_image c.self.inside.rig here)
+    (stays_sealed l.rules l.history e c.args.entry.now [] (g.R.Disk.seen c.self.inside.rig) (g.R.Disk.may_leave c.self.inside.rig) (g.met.R.Disk.reads_as_image c.self.inside.rig here)
     c.len-len.ensures.legal line rests)
 
 pub returns-in-Ok-clause-payloads : goal.returns-in-Ok-clause-payloads
@@ -96,14 +101,9 @@ returns-in-Err-Damaged-clause-payloads g c = λ plain.
 
 pub returns-in-Err-Damaged-clause-crash : goal.returns-in-Err-Damaged-clause-crash
 returns-in-Err-Damaged-clause-crash g c = λ plain.
-    let here : Plain (g.R.Disk.told c.self.inside.rig) (g.R.Disk.honest c.self.inside.rig) =
-    subst (λ (b : Booked g.row.G.Denot g.row.R.Denot). Plain (g.R.Disk.told b.rig) (g.R.Disk.honest b.rig)) (sym c.self.view_is) plain in
-    let l = c.self.inside.ledger in
-    subst (λ (b : Booked g.row.G.Denot g.row.R.Denot). (e : Payloads) → RestIn b.rules b.history e (g.R.Disk.may_leave b.rig) →
-    Leaves g.R.Disk.moment g.R.Disk.may_leave g.R.Disk.left_since (Rests b.rules b.history e) b.rig c.step.new.disk) c.self.view_is
-    (at_hurt (λ item stored found. Plain (g.R.Disk.told c.self.inside.rig) (g.R.Disk.honest c.self.inside.rig) → (o : Payloads) → RestIn l.rules l.history o (g.R.Disk.may_leave c.self.inside.rig) →
-    Leaves g.R.Disk.moment g.R.Disk.may_leave g.R.Disk.left_since (Rests l.rules l.history o) c.self.inside.rig c.step.new.disk) c.step.result c.in-Err-Damaged.field-0
-    c.in-Err-Damaged.item c.in-Err-Damaged.stored c.in-Err-Damaged.found c.in-Err-Damaged.is c.in-Err-Damaged.field-0-is c.step.ensures.only_read here)
+    subst (λ (b : Booked g.row.G.Denot g.row.R.Denot). Plain (g.R.Disk.told b.rig) (g.R.Disk.honest b.rig) → Runs g.R.Disk.moment g.R.Disk.may_leave g.R.Disk.left_since Same b.rig c.step.new.disk) c.self.view_is
+    (at_hurt (λ item stored found. Plain (g.R.Disk.told c.self.inside.rig) (g.R.Disk.honest c.self.inside.rig) → Runs g.R.Disk.moment g.R.Disk.may_leave g.R.Disk.left_since Same c.self.inside.rig c.step.new.disk) c.step.result c.in-Err-Damaged.field-0
+    c.in-Err-Damaged.item c.in-Err-Damaged.stored c.in-Err-Damaged.found c.in-Err-Damaged.is c.in-Err-Damaged.field-0-is c.step.ensures.only_read) plain
 
 pub returns-in-Err-Damaged-clause-seals : goal.returns-in-Err-Damaged-clause-seals
 returns-in-Err-Damaged-clause-seals g c = λ plain.
@@ -129,11 +129,15 @@ pub returns-in-Err-Failed-clause-crash : goal.returns-in-Err-Failed-clause-crash
 returns-in-Err-Failed-clause-crash g c = λ plain.
     let view : Booked g.row.G.Denot g.row.R.Denot = (record { rules = c.self.inside.ledger.rules; history = c.self.inside.ledger.history; payloads = payloads_in (after c.self.inside.ledger.rules c.self.inside.ledger.history) (g.R.Disk.seen c.self.inside.rested.value); store = c.self.inside.ledger.store; held = c.self.inside.claims.items; spare = c.self.inside.spare; down = c.self.inside.down; beside = c.self.inside.beside; rig = c.self.inside.rig; opened = c.self.inside.opened.value }) in
     let here : Plain (g.R.Disk.told c.self.inside.rig) (g.R.Disk.honest c.self.inside.rig) =
-    subst (λ (b : Booked g.row.G.Denot g.row.R.Denot). Plain (g.R.Disk.told b.rig) (g.R.Disk.honest b.rig)) (sym c.self.view_is) plain in (
+    subst (λ (b : Booked g.row.G.Denot g.row.R.Denot). Plain (g.R.Disk.told b.rig) (g.R.Disk.honest b.rig)) (sym c.self.view_is) plain in
+    let up : c.self.inside.down ≡ false = subst (λ (b : Booked g.row.G.Denot g.row.R.Denot). b.down ≡ false) (sym c.self.view_is) c.requires.up in
+    let l = c.self.inside.ledger in
+    let e = payloads_in (after l.rules l.history) (g.R.Disk.seen c.self.inside.rested.value) in
+    let rests = rests_with l.rules l.history e c.self.inside.down (g.R.Disk.seen c.self.inside.rig) (g.R.Disk.seen c.self.inside.opened.value) up (c.self.invariant.3 here)
+    (g.R.Disk.may_leave c.self.inside.rig) ((c.self.invariant.0 up).areas here).rests in (
       λ none. absurd (cc none),
       of_beside view c.args.self.now c.self.view_is c.args.entry.now c.of.result c.of.ensures.entry
-          (λ (b : Booked g.row.G.Denot g.row.R.Denot) (x : Entry). IsCrashSafe g.R.Disk.moment g.R.Disk.may_leave g.R.Disk.left_since b.rules b.history x [] b.rig c.step.new.disk)
-          (c.step.ensures.crash here),
+          (λ (b : Booked g.row.G.Denot g.row.R.Denot) (x : Entry). LeavesEntry g.R.Disk.moment g.R.Disk.may_leave g.R.Disk.left_since b x [] c.step.new.disk) (c.step.ensures.crash here e rests),
     )
 
 pub returns-in-Err-Failed-clause-seals : goal.returns-in-Err-Failed-clause-seals
@@ -150,7 +154,7 @@ returns-in-Err-Failed-clause-seals g c = λ plain.
     (g.R.Disk.may_leave c.self.inside.rig) areas.rests in
     of_beside view c.args.self.now c.self.view_is c.args.entry.now c.of.result c.of.ensures.entry
     (λ (b : Booked g.row.G.Denot g.row.R.Denot) (x : Entry). AreSealed b.rules b.history b.payloads → AreSealed b.rules (b.history ++ x ∷ []) (payloads_after digest (state_in b) x [] b.payloads))
-    (made_seals l.rules l.history e c.args.entry.now (g.R.Disk.seen c.self.inside.rig) (g.R.Disk.may_leave c.self.inside.rig) (g.met.R.Disk.reads_as_image c.self.inside.rig here)
+    (stays_sealed l.rules l.history e c.args.entry.now [] (g.R.Disk.seen c.self.inside.rig) (g.R.Disk.may_leave c.self.inside.rig) (g.met.R.Disk.reads_as_image c.self.inside.rig here)
     c.len-len.ensures.legal line rests)
 
 pub invariant_of-self : goal.invariant_of-self
@@ -208,14 +212,13 @@ invariant_of-self-in-Err-Damaged g c =
       λ plain.
           let here = was_plain c.step.ensures.kind plain in
           let rests = ((c.self.invariant.0 up).areas here).rests in
-          let read = at_hurt (λ item stored found. Plain (g.R.Disk.told c.self.inside.rig) (g.R.Disk.honest c.self.inside.rig) → (o : Payloads) → RestIn l.rules l.history o (g.R.Disk.may_leave c.self.inside.rig) →
-          Leaves g.R.Disk.moment g.R.Disk.may_leave g.R.Disk.left_since (Rests l.rules l.history o) c.self.inside.rig c.step.new.disk) c.step.result c.in-Err-Damaged.field-0
-          c.in-Err-Damaged.item c.in-Err-Damaged.stored c.in-Err-Damaged.found c.in-Err-Damaged.is c.in-Err-Damaged.field-0-is c.step.ensures.only_read here
-          (payloads_in (after l.rules l.history) (g.R.Disk.seen c.self.inside.rig)) rests in
+          let read = read_rests l.rules l.history (payloads_in (after l.rules l.history) (g.R.Disk.seen c.self.inside.rig)) rests
+          (at_hurt (λ item stored found. Plain (g.R.Disk.told c.self.inside.rig) (g.R.Disk.honest c.self.inside.rig) → Runs g.R.Disk.moment g.R.Disk.may_leave g.R.Disk.left_since Same c.self.inside.rig c.step.new.disk) c.step.result c.in-Err-Damaged.field-0
+          c.in-Err-Damaged.item c.in-Err-Damaged.stored c.in-Err-Damaged.found c.in-Err-Damaged.is c.in-Err-Damaged.field-0-is c.step.ensures.only_read here) in
           at_ledger (λ (r : RuleSet) (h : List Entry). KeepsPayloads r h (payloads_in (after r h) (g.R.Disk.seen c.self.inside.rested.value)) c.self.inside.down (g.R.Disk.seen c.step.new.disk) (g.R.Disk.seen c.self.inside.opened.value))
           l.rules now.rules l.history now.history c.step.ensures.rules c.in-Err-Damaged.ensures.err
           (keeps_still l.rules l.history (payloads_in (after l.rules l.history) (g.R.Disk.seen c.self.inside.rested.value)) c.self.inside.down (g.R.Disk.seen c.self.inside.rig) (g.R.Disk.seen c.self.inside.opened.value)
-          up (c.self.invariant.3 here) (g.R.Disk.seen c.step.new.disk) (read.now (g.R.Disk.seen c.step.new.disk) (g.met.R.Disk.reads_as_image c.step.new.disk plain)).1),
+          up (c.self.invariant.3 here) (g.R.Disk.seen c.step.new.disk) (read (g.R.Disk.seen c.step.new.disk) (g.met.R.Disk.reads_as_image c.step.new.disk plain)).1),
       opening_still c.self.invariant.4 c.step.ensures.kind cause,
       claims_same l.rules now.rules l.history now.history l.held now.held c.self.inside.spare c.self.inside.spare c.self.inside.claims.items c.self.inside.claims.items (vec_capacity c.self.inside.claims) (vec_capacity c.self.inside.claims)
           c.step.ensures.rules c.in-Err-Damaged.ensures.err c.step.ensures.held refl c.self.invariant.5.room c.self.invariant.5,

@@ -15,7 +15,6 @@ use Rattle.delf_book.proofs.Fallen.{fell_alone}
 use Rattle.delf_book.proofs.Held.{rest_as_read}
 use Rattle.delf_book.proofs.Payloads.{rests_with, keeps_still, keeps_fallen, opening_still, opening_fell}
 use Rattle.delf_book.proofs.Sizes.{journal_in}
-use Rattle.delf_book.proofs.Callings.{settle_safe}
 use Rattle.delf_book.proofs.book.Book.read_edge.Goals as goal
 
 pub read_edge_at-requires-clause-stands : goal.read_edge_at-requires-clause-stands
@@ -59,24 +58,8 @@ invariant_of-self g c = (
   λ plain. c.self.invariant.6 (was_plain c.read_edge_at.ensures.kind plain),
 )
 
-pub returns-in-Ok-clause-crash : goal.returns-in-Ok-clause-crash
-returns-in-Ok-clause-crash g c = λ plain up e rests.
-    let view : Booked g.row.G.Denot g.row.R.Denot = (record { rules = c.self.inside.ledger.rules; history = c.self.inside.ledger.history; payloads = payloads_in (after c.self.inside.ledger.rules c.self.inside.ledger.history) (g.R.Disk.seen c.self.inside.rested.value); store = c.self.inside.ledger.store; held = c.self.inside.claims.items; spare = c.self.inside.spare; down = c.self.inside.down; beside = c.self.inside.beside; rig = c.self.inside.rig; opened = c.self.inside.opened.value }) in
-    let here : Plain (g.R.Disk.told c.self.inside.rig) (g.R.Disk.honest c.self.inside.rig) =
-    subst (λ (b : Booked g.row.G.Denot g.row.R.Denot). Plain (g.R.Disk.told b.rig) (g.R.Disk.honest b.rig)) (sym c.self.view_is) plain in
-    settle_safe view c.args.self.now c.self.view_is c.read_edge_at.new.disk g.R.Disk.moment g.R.Disk.may_leave g.R.Disk.left_since
-    (c.read_edge_at.ensures.crash here c.self.inside.ledger.rules c.self.inside.ledger.history) e rests
-
-pub returns-in-Err-clause-crash : goal.returns-in-Err-clause-crash
-returns-in-Err-clause-crash g c = λ plain up e rests.
-    let view : Booked g.row.G.Denot g.row.R.Denot = (record { rules = c.self.inside.ledger.rules; history = c.self.inside.ledger.history; payloads = payloads_in (after c.self.inside.ledger.rules c.self.inside.ledger.history) (g.R.Disk.seen c.self.inside.rested.value); store = c.self.inside.ledger.store; held = c.self.inside.claims.items; spare = c.self.inside.spare; down = c.self.inside.down; beside = c.self.inside.beside; rig = c.self.inside.rig; opened = c.self.inside.opened.value }) in
-    let here : Plain (g.R.Disk.told c.self.inside.rig) (g.R.Disk.honest c.self.inside.rig) =
-    subst (λ (b : Booked g.row.G.Denot g.row.R.Denot). Plain (g.R.Disk.told b.rig) (g.R.Disk.honest b.rig)) (sym c.self.view_is) plain in
-    settle_safe view c.args.self.now c.self.view_is c.read_edge_at.new.disk g.R.Disk.moment g.R.Disk.may_leave g.R.Disk.left_since
-    (c.read_edge_at.ensures.crash here c.self.inside.ledger.rules c.self.inside.ledger.history) e rests
-
-pub returns-in-Ok-clause-reads : goal.returns-in-Ok-clause-reads
-returns-in-Ok-clause-reads g c = λ plain.
+pub returns-in-Ok-clause-payload : goal.returns-in-Ok-clause-payload
+returns-in-Ok-clause-payload g c = λ plain.
     let l = c.self.inside.ledger in
     let here : Plain (g.R.Disk.told c.self.inside.rig) (g.R.Disk.honest c.self.inside.rig) =
     subst (λ (b : Booked g.row.G.Denot g.row.R.Denot). Plain (g.R.Disk.told b.rig) (g.R.Disk.honest b.rig)) (sym c.self.view_is) plain in

@@ -1,11 +1,9 @@
-use Rattle.std.proofs.Common.{◌≡◌, ◌∙◌, sym, ap, subst, List, vec_len, vec_capacity, ◌+◌, length, arith}
+use Rattle.std.proofs.Common.{◌≡◌, ◌∙◌, sym, ap, subst, List, vec_len, vec_capacity, length, arith}
 use Rattle.std.specs.Prelude.{Contains}
-use Rattle.delf_model.specs.declared.entry.Entry.{Entry}
 use Rattle.delf_model.specs.declared.entry.What.{What}
 use Rattle.delf_model.specs.Order.{is_held}
 use Rattle.delf_model.specs.Step.{after}
-use Rattle.delete_step.specs.Claims.{ClaimView}
-use Rattle.delf_book.specs.Claims.{room_for, taken_by, step_of, steps_of, without, AreRead, IsRead}
+use Rattle.delf_book.specs.Claims.{room_for, taken_by, step_of, steps_of, IsRead}
 use Rattle.delf_book.specs.Keeping.{payloads_in}
 use Rattle.delf_book.proofs.Claiming.{claim_held, claims_less, each_less, without_fewer, less_room}
 use Rattle.delf_book.proofs.book.Book.release.Goals as goal

@@ -3,14 +3,13 @@ use Rattle.delf_disk.specs.Plain.{Plain}
 use Rattle.delf_disk.proofs.Flags.{was_plain}
 use Rattle.delf_model.specs.Step.{after}
 use Rattle.store_laws.specs.Stores.{Settled}
-use Rattle.delf_book.specs.Books.{Booked}
+use Rattle.delf_book.specs.Books.{Booked, LeavesAlone}
 use Rattle.delf_book.specs.Keeping.{payloads_in}
 use Rattle.delf_book.proofs.Fallen.{fell_alone}
 use Rattle.delf_book.proofs.Held.{rest_as_read}
 use Rattle.delf_book.proofs.Payloads.{rests_with, keeps_still, keeps_fallen, opening_still, opening_fell}
 use Rattle.delf_book.proofs.Plainly.{keeps_same, room_lists}
 use Rattle.delf_book.proofs.Sizes.{journal_in, vault_in}
-use Rattle.delf_book.proofs.Callings.{settle_safe}
 use Rattle.delf_book.specs.Claims.{room_for}
 use Rattle.delf_book.proofs.book.Book.settle.Goals as goal
 
@@ -29,20 +28,24 @@ settle_areas-requires-clause-vault_stands g c = λ plain.
     (payloads_in (after l.rules l.history) (g.R.Disk.seen c.self.inside.rig)) (kept.areas plain).rests
 
 pub returns-in-Ok-clause-crash : goal.returns-in-Ok-clause-crash
-returns-in-Ok-clause-crash g c = λ plain up e rests.
-    let view : Booked g.row.G.Denot g.row.R.Denot = (record { rules = c.self.inside.ledger.rules; history = c.self.inside.ledger.history; payloads = payloads_in (after c.self.inside.ledger.rules c.self.inside.ledger.history) (g.R.Disk.seen c.self.inside.rested.value); store = c.self.inside.ledger.store; held = c.self.inside.claims.items; spare = c.self.inside.spare; down = c.self.inside.down; beside = c.self.inside.beside; rig = c.self.inside.rig; opened = c.self.inside.opened.value }) in
+returns-in-Ok-clause-crash g c = λ plain up.
     let here : Plain (g.R.Disk.told c.self.inside.rig) (g.R.Disk.honest c.self.inside.rig) =
     subst (λ (b : Booked g.row.G.Denot g.row.R.Denot). Plain (g.R.Disk.told b.rig) (g.R.Disk.honest b.rig)) (sym c.self.view_is) plain in
-    settle_safe view c.args.self.now c.self.view_is c.settle_areas.new.disk g.R.Disk.moment g.R.Disk.may_leave g.R.Disk.left_since
-    (c.settle_areas.ensures.crash here c.self.inside.ledger.rules c.self.inside.ledger.history) e rests
+    let l = c.self.inside.ledger in
+    let e = payloads_in (after l.rules l.history) (g.R.Disk.seen c.self.inside.rested.value) in
+    let rests = rests_with l.rules l.history e c.self.inside.down (g.R.Disk.seen c.self.inside.rig) (g.R.Disk.seen c.self.inside.opened.value) c.if-self.false (c.self.invariant.3 here)
+    (g.R.Disk.may_leave c.self.inside.rig) ((c.self.invariant.0 c.if-self.false).areas here).rests in
+    subst (λ (b : Booked g.row.G.Denot g.row.R.Denot). LeavesAlone g.R.Disk.moment g.R.Disk.may_leave g.R.Disk.left_since b c.settle_areas.new.disk) c.self.view_is (c.settle_areas.ensures.crash here l.rules l.history e rests)
 
 pub returns-in-Err-clause-crash : goal.returns-in-Err-clause-crash
-returns-in-Err-clause-crash g c = λ plain up e rests.
-    let view : Booked g.row.G.Denot g.row.R.Denot = (record { rules = c.self.inside.ledger.rules; history = c.self.inside.ledger.history; payloads = payloads_in (after c.self.inside.ledger.rules c.self.inside.ledger.history) (g.R.Disk.seen c.self.inside.rested.value); store = c.self.inside.ledger.store; held = c.self.inside.claims.items; spare = c.self.inside.spare; down = c.self.inside.down; beside = c.self.inside.beside; rig = c.self.inside.rig; opened = c.self.inside.opened.value }) in
+returns-in-Err-clause-crash g c = λ plain up.
     let here : Plain (g.R.Disk.told c.self.inside.rig) (g.R.Disk.honest c.self.inside.rig) =
     subst (λ (b : Booked g.row.G.Denot g.row.R.Denot). Plain (g.R.Disk.told b.rig) (g.R.Disk.honest b.rig)) (sym c.self.view_is) plain in
-    settle_safe view c.args.self.now c.self.view_is c.settle_areas.new.disk g.R.Disk.moment g.R.Disk.may_leave g.R.Disk.left_since
-    (c.settle_areas.ensures.crash here c.self.inside.ledger.rules c.self.inside.ledger.history) e rests
+    let l = c.self.inside.ledger in
+    let e = payloads_in (after l.rules l.history) (g.R.Disk.seen c.self.inside.rested.value) in
+    let rests = rests_with l.rules l.history e c.self.inside.down (g.R.Disk.seen c.self.inside.rig) (g.R.Disk.seen c.self.inside.opened.value) c.if-self.false (c.self.invariant.3 here)
+    (g.R.Disk.may_leave c.self.inside.rig) ((c.self.invariant.0 c.if-self.false).areas here).rests in
+    subst (λ (b : Booked g.row.G.Denot g.row.R.Denot). LeavesAlone g.R.Disk.moment g.R.Disk.may_leave g.R.Disk.left_since b c.settle_areas.new.disk) c.self.view_is (c.settle_areas.ensures.crash here l.rules l.history e rests)
 
 pub returns-in-Ok-clause-settled : goal.returns-in-Ok-clause-settled
 returns-in-Ok-clause-settled g c = λ plain x image.

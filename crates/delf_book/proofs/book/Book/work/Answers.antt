@@ -10,20 +10,21 @@ use Rattle.delf_book.specs.Claims.{room_for}
 use Rattle.delf_book.specs.Keeping.{KeepsUp, KeepsDown, KeepsPayloads, payloads_in}
 use Rattle.delf_book.proofs.Claiming.{claims_same, claims_entered, read_same, read_entered, none_claimed}
 use Rattle.delf_disk.proofs.Flags.{was_plain, stays_plain}
-use Rattle.delf_disk.specs.Moments.{Leaves}
+use Rattle.delf_disk.specs.Images.{Same}
+use Rattle.delf_disk.specs.Moments.{Runs}
 use Rattle.delf_disk.specs.Plain.{Plain}
 use Rattle.delf_model.specs.declared.entry.What.{What}
 use Rattle.delf_model.specs.Room.{greatest_moment, moment_of}
 use Rattle.delf_model.specs.Step.{after}
 use Rattle.delf_model.specs.Payloads.{Payloads, payloads_after}
 use Rattle.store_laws.specs.Moves.{RestIn}
-use Rattle.delf_book.specs.Books.{Booked, state_in, is_reserved, IsCrashSafe, IsDurable}
+use Rattle.delf_book.specs.Books.{Booked, state_in, is_reserved, LeavesEntry, RestsLonger}
 use Rattle.delf_book.specs.Steps.{PutsSealed, TellsDamage, step_entry}
-use Rattle.delf_book.specs.Writing.{Rests}
+use Rattle.delf_book.proofs.RowRecords.{read_rests}
 use Rattle.delf_book.proofs.Halts.{at_hurt, starved_is, waits_starved, waits_hurt}
-use Rattle.delf_book.proofs.Whole.{seals_stay, whole_undamaged}
+use Rattle.delf_book.proofs.Whole.{stays_sealed, whole_undamaged}
 use Rattle.delf_book.proofs.Workings.{of_first, first_line}
-use Rattle.delf_book.specs.Seals.{SealsStay}
+use Rattle.delf_book.specs.Seals.{StaysSealed}
 use Rattle.delf_book.specs.Stepping.{PutsBackItem, CountsHalt}
 use Rattle.store_laws.specs.Stores.{digest, AreSealed}
 use Rattle.delf_book.proofs.book.Book.work.Goals as goal
@@ -35,29 +36,32 @@ returns-in-Ok-clause-crash g c = λ plain.
     c.moment_at-moment.ensures ∙ ap (λ (k : ℕ). max k (min c.args.now greatest_moment)) c.moment.ensures.value in
     let here : Plain (g.R.Disk.told c.self.inside.rig) (g.R.Disk.honest c.self.inside.rig) =
     subst (λ (b : Booked g.row.G.Denot g.row.R.Denot). Plain (g.R.Disk.told b.rig) (g.R.Disk.honest b.rig)) (sym c.self.view_is) plain in
+    let l = c.self.inside.ledger in
+    let e = payloads_in (after l.rules l.history) (g.R.Disk.seen c.self.inside.rested.value) in
+    let rests = rests_with l.rules l.history e c.self.inside.down (g.R.Disk.seen c.self.inside.rig) (g.R.Disk.seen c.self.inside.opened.value) c.if-self.false (c.self.invariant.3 here)
+    (g.R.Disk.may_leave c.self.inside.rig) ((c.self.invariant.0 c.if-self.false).areas here).rests in
     of_first view c.args.self.now c.self.view_is c.args.now c.moment_at-moment.result m_is c.in-Some.what c.in-Some.ensures.step
-    (λ (b : Booked g.row.G.Denot g.row.R.Denot) (k : ℕ) (w : What).
-    IsCrashSafe g.R.Disk.moment g.R.Disk.may_leave g.R.Disk.left_since b.rules b.history (step_entry k w) [] b.rig c.step.new.disk ×
-    IsDurable g.R.Disk.may_leave b.rules b.history (step_entry k w) [] b.rig c.step.new.disk ×
-    ((e : Payloads) → RestIn b.rules b.history e (g.R.Disk.may_leave b.rig) → PutsSealed (state_in b) w e))
-    (c.step.ensures.crash here, c.in-Ok.ensures.durable here, c.in-Ok.ensures.sealed here)
+    (λ (b : Booked g.row.G.Denot g.row.R.Denot) (k : ℕ) (w : What). LeavesEntry g.R.Disk.moment g.R.Disk.may_leave g.R.Disk.left_since b (step_entry k w) [] c.step.new.disk × RestsLonger g.R.Disk.may_leave b (step_entry k w) [] c.step.new.disk)
+    (c.step.ensures.crash here e rests, c.in-Ok.ensures.durable here e rests)
 
 pub returns-in-Err-Damaged-clause-crash : goal.returns-in-Err-Damaged-clause-crash
 returns-in-Err-Damaged-clause-crash g c = λ plain.
-    let l = c.self.inside.ledger in
+    subst (λ (b : Booked g.row.G.Denot g.row.R.Denot). Plain (g.R.Disk.told b.rig) (g.R.Disk.honest b.rig) → Runs g.R.Disk.moment g.R.Disk.may_leave g.R.Disk.left_since Same b.rig c.step.new.disk) c.self.view_is
+    (at_hurt (λ item stored found. Plain (g.R.Disk.told c.self.inside.rig) (g.R.Disk.honest c.self.inside.rig) → Runs g.R.Disk.moment g.R.Disk.may_leave g.R.Disk.left_since Same c.self.inside.rig c.step.new.disk) c.step.result c.in-Err-Damaged.field-0
+    c.in-Err-Damaged.item c.in-Err-Damaged.stored c.in-Err-Damaged.found c.in-Err-Damaged.is c.in-Err-Damaged.field-0-is c.step.ensures.only_read) plain
+
+pub returns-in-Err-Damaged-clause-payloads : goal.returns-in-Err-Damaged-clause-payloads
+returns-in-Err-Damaged-clause-payloads g c = λ plain.
     let here : Plain (g.R.Disk.told c.self.inside.rig) (g.R.Disk.honest c.self.inside.rig) =
     subst (λ (b : Booked g.row.G.Denot g.row.R.Denot). Plain (g.R.Disk.told b.rig) (g.R.Disk.honest b.rig)) (sym c.self.view_is) plain in
-    subst (λ (b : Booked g.row.G.Denot g.row.R.Denot). (e : Payloads) → RestIn b.rules b.history e (g.R.Disk.may_leave b.rig) →
-    Leaves g.R.Disk.moment g.R.Disk.may_leave g.R.Disk.left_since (Rests b.rules b.history e) b.rig c.step.new.disk ×
-    TellsDamage (state_in b) e c.in-Err-Damaged.item c.in-Err-Damaged.stored c.in-Err-Damaged.found) c.self.view_is
-    (λ e rests. (
-      at_hurt (λ item stored found. Plain (g.R.Disk.told c.self.inside.rig) (g.R.Disk.honest c.self.inside.rig) → (o : Payloads) → RestIn l.rules l.history o (g.R.Disk.may_leave c.self.inside.rig) →
-          Leaves g.R.Disk.moment g.R.Disk.may_leave g.R.Disk.left_since (Rests l.rules l.history o) c.self.inside.rig c.step.new.disk) c.step.result c.in-Err-Damaged.field-0
-          c.in-Err-Damaged.item c.in-Err-Damaged.stored c.in-Err-Damaged.found c.in-Err-Damaged.is c.in-Err-Damaged.field-0-is c.step.ensures.only_read here e rests,
-      at_hurt (λ item stored found. Plain (g.R.Disk.told c.self.inside.rig) (g.R.Disk.honest c.self.inside.rig) → (o : Payloads) → RestIn l.rules l.history o (g.R.Disk.may_leave c.self.inside.rig) →
-          TellsDamage (after l.rules l.history) o item stored found) c.step.result c.in-Err-Damaged.field-0
-          c.in-Err-Damaged.item c.in-Err-Damaged.stored c.in-Err-Damaged.found c.in-Err-Damaged.is c.in-Err-Damaged.field-0-is c.step.ensures.damaged here e rests,
-    ))
+    let l = c.self.inside.ledger in
+    let e = payloads_in (after l.rules l.history) (g.R.Disk.seen c.self.inside.rested.value) in
+    let rests = rests_with l.rules l.history e c.self.inside.down (g.R.Disk.seen c.self.inside.rig) (g.R.Disk.seen c.self.inside.opened.value) c.if-self.false (c.self.invariant.3 here)
+    (g.R.Disk.may_leave c.self.inside.rig) ((c.self.invariant.0 c.if-self.false).areas here).rests in
+    subst (λ (b : Booked g.row.G.Denot g.row.R.Denot). TellsDamage (state_in b) b.payloads c.in-Err-Damaged.item c.in-Err-Damaged.stored c.in-Err-Damaged.found) c.self.view_is
+    (at_hurt (λ item stored found. Plain (g.R.Disk.told c.self.inside.rig) (g.R.Disk.honest c.self.inside.rig) → (o : Payloads) → RestIn l.rules l.history o (g.R.Disk.may_leave c.self.inside.rig) →
+    TellsDamage (after l.rules l.history) o item stored found) c.step.result c.in-Err-Damaged.field-0
+    c.in-Err-Damaged.item c.in-Err-Damaged.stored c.in-Err-Damaged.found c.in-Err-Damaged.is c.in-Err-Damaged.field-0-is c.step.ensures.damaged here e rests)
 
 pub returns-in-Err-Failed-clause-crash : goal.returns-in-Err-Failed-clause-crash
 returns-in-Err-Failed-clause-crash g c = λ plain.
@@ -66,10 +70,12 @@ returns-in-Err-Failed-clause-crash g c = λ plain.
     c.moment_at-moment.ensures ∙ ap (λ (k : ℕ). max k (min c.args.now greatest_moment)) c.moment.ensures.value in
     let here : Plain (g.R.Disk.told c.self.inside.rig) (g.R.Disk.honest c.self.inside.rig) =
     subst (λ (b : Booked g.row.G.Denot g.row.R.Denot). Plain (g.R.Disk.told b.rig) (g.R.Disk.honest b.rig)) (sym c.self.view_is) plain in
+    let l = c.self.inside.ledger in
+    let e = payloads_in (after l.rules l.history) (g.R.Disk.seen c.self.inside.rested.value) in
+    let rests = rests_with l.rules l.history e c.self.inside.down (g.R.Disk.seen c.self.inside.rig) (g.R.Disk.seen c.self.inside.opened.value) c.if-self.false (c.self.invariant.3 here)
+    (g.R.Disk.may_leave c.self.inside.rig) ((c.self.invariant.0 c.if-self.false).areas here).rests in
     of_first view c.args.self.now c.self.view_is c.args.now c.moment_at-moment.result m_is c.in-Some.what c.in-Some.ensures.step
-    (λ (b : Booked g.row.G.Denot g.row.R.Denot) (k : ℕ) (w : What).
-    IsCrashSafe g.R.Disk.moment g.R.Disk.may_leave g.R.Disk.left_since b.rules b.history (step_entry k w) [] b.rig c.step.new.disk)
-    (c.step.ensures.crash here)
+    (λ (b : Booked g.row.G.Denot g.row.R.Denot) (k : ℕ) (w : What). LeavesEntry g.R.Disk.moment g.R.Disk.may_leave g.R.Disk.left_since b (step_entry k w) [] c.step.new.disk) (c.step.ensures.crash here e rests)
 
 pub returns-in-Ok-clause-seals : goal.returns-in-Ok-clause-seals
 returns-in-Ok-clause-seals g c = λ plain.
@@ -78,11 +84,15 @@ returns-in-Ok-clause-seals g c = λ plain.
     c.moment_at-moment.ensures ∙ ap (λ (k : ℕ). max k (min c.args.now greatest_moment)) c.moment.ensures.value in
     let here : Plain (g.R.Disk.told c.self.inside.rig) (g.R.Disk.honest c.self.inside.rig) =
     subst (λ (b : Booked g.row.G.Denot g.row.R.Denot). Plain (g.R.Disk.told b.rig) (g.R.Disk.honest b.rig)) (sym c.self.view_is) plain in
+    let l = c.self.inside.ledger in
+    let e = payloads_in (after l.rules l.history) (g.R.Disk.seen c.self.inside.rested.value) in
+    let rests = rests_with l.rules l.history e c.self.inside.down (g.R.Disk.seen c.self.inside.rig) (g.R.Disk.seen c.self.inside.opened.value) c.if-self.false (c.self.invariant.3 here)
+    (g.R.Disk.may_leave c.self.inside.rig) ((c.self.invariant.0 c.if-self.false).areas here).rests in
     of_first view c.args.self.now c.self.view_is c.args.now c.moment_at-moment.result m_is c.in-Some.what c.in-Some.ensures.step
-    (λ (b : Booked g.row.G.Denot g.row.R.Denot) (k : ℕ) (w : What). SealsStay g.R.Disk.may_leave b.rules b.history (step_entry k w) [] b.rig)
-    (seals_stay g.R.Disk.may_leave view.rules view.history (step_entry c.moment_at-moment.result c.in-Some.what) [] c.self.inside.rig
-    (g.R.Disk.seen c.self.inside.rig) (g.met.R.Disk.reads_as_image c.self.inside.rig here) c.len-len.ensures.legal
-    (first_line (after c.self.inside.ledger.rules c.self.inside.ledger.history) c.moment_at-moment.result c.in-Some.what c.in-Some.ensures.legal c.in-Some.ensures.step))
+    (λ (b : Booked g.row.G.Denot g.row.R.Denot) (k : ℕ) (w : What). StaysSealed b (step_entry k w) [])
+    (stays_sealed l.rules l.history e (step_entry c.moment_at-moment.result c.in-Some.what) [] (g.R.Disk.seen c.self.inside.rig) (g.R.Disk.may_leave c.self.inside.rig)
+    (g.met.R.Disk.reads_as_image c.self.inside.rig here) c.len-len.ensures.legal
+    (first_line (after l.rules l.history) c.moment_at-moment.result c.in-Some.what c.in-Some.ensures.legal c.in-Some.ensures.step) rests)
 
 pub returns-in-Err-Failed-clause-seals : goal.returns-in-Err-Failed-clause-seals
 returns-in-Err-Failed-clause-seals g c = λ plain.
@@ -91,27 +101,34 @@ returns-in-Err-Failed-clause-seals g c = λ plain.
     c.moment_at-moment.ensures ∙ ap (λ (k : ℕ). max k (min c.args.now greatest_moment)) c.moment.ensures.value in
     let here : Plain (g.R.Disk.told c.self.inside.rig) (g.R.Disk.honest c.self.inside.rig) =
     subst (λ (b : Booked g.row.G.Denot g.row.R.Denot). Plain (g.R.Disk.told b.rig) (g.R.Disk.honest b.rig)) (sym c.self.view_is) plain in
+    let l = c.self.inside.ledger in
+    let e = payloads_in (after l.rules l.history) (g.R.Disk.seen c.self.inside.rested.value) in
+    let rests = rests_with l.rules l.history e c.self.inside.down (g.R.Disk.seen c.self.inside.rig) (g.R.Disk.seen c.self.inside.opened.value) c.if-self.false (c.self.invariant.3 here)
+    (g.R.Disk.may_leave c.self.inside.rig) ((c.self.invariant.0 c.if-self.false).areas here).rests in
     of_first view c.args.self.now c.self.view_is c.args.now c.moment_at-moment.result m_is c.in-Some.what c.in-Some.ensures.step
-    (λ (b : Booked g.row.G.Denot g.row.R.Denot) (k : ℕ) (w : What). SealsStay g.R.Disk.may_leave b.rules b.history (step_entry k w) [] b.rig)
-    (seals_stay g.R.Disk.may_leave view.rules view.history (step_entry c.moment_at-moment.result c.in-Some.what) [] c.self.inside.rig
-    (g.R.Disk.seen c.self.inside.rig) (g.met.R.Disk.reads_as_image c.self.inside.rig here) c.len-len.ensures.legal
-    (first_line (after c.self.inside.ledger.rules c.self.inside.ledger.history) c.moment_at-moment.result c.in-Some.what c.in-Some.ensures.legal c.in-Some.ensures.step))
+    (λ (b : Booked g.row.G.Denot g.row.R.Denot) (k : ℕ) (w : What). StaysSealed b (step_entry k w) [])
+    (stays_sealed l.rules l.history e (step_entry c.moment_at-moment.result c.in-Some.what) [] (g.R.Disk.seen c.self.inside.rig) (g.R.Disk.may_leave c.self.inside.rig)
+    (g.met.R.Disk.reads_as_image c.self.inside.rig here) c.len-len.ensures.legal
+    (first_line (after l.rules l.history) c.moment_at-moment.result c.in-Some.what c.in-Some.ensures.legal c.in-Some.ensures.step) rests)
 
 pub returns-in-Err-Damaged-clause-seals : goal.returns-in-Err-Damaged-clause-seals
 returns-in-Err-Damaged-clause-seals g c = λ plain.
-    let l = c.self.inside.ledger in
     let here : Plain (g.R.Disk.told c.self.inside.rig) (g.R.Disk.honest c.self.inside.rig) =
     subst (λ (b : Booked g.row.G.Denot g.row.R.Denot). Plain (g.R.Disk.told b.rig) (g.R.Disk.honest b.rig)) (sym c.self.view_is) plain in
+    let l = c.self.inside.ledger in
+    let e = payloads_in (after l.rules l.history) (g.R.Disk.seen c.self.inside.rested.value) in
+    let rests = rests_with l.rules l.history e c.self.inside.down (g.R.Disk.seen c.self.inside.rig) (g.R.Disk.seen c.self.inside.opened.value) c.if-self.false (c.self.invariant.3 here)
+    (g.R.Disk.may_leave c.self.inside.rig) ((c.self.invariant.0 c.if-self.false).areas here).rests in
     let entry = step_entry c.moment_at-moment.result c.in-Some.what in
     let puts = at_hurt (λ item stored found. PutsBackItem (after l.rules l.history) c.in-Some.what item × (stored ≡ found → ⊥)) c.step.result c.in-Err-Damaged.field-0
     c.in-Err-Damaged.item c.in-Err-Damaged.stored c.in-Err-Damaged.found c.in-Err-Damaged.is c.in-Err-Damaged.field-0-is c.step.ensures.refuses in
     let tells = at_hurt (λ item stored found. Plain (g.R.Disk.told c.self.inside.rig) (g.R.Disk.honest c.self.inside.rig) → (o : Payloads) → RestIn l.rules l.history o (g.R.Disk.may_leave c.self.inside.rig) →
     TellsDamage (after l.rules l.history) o item stored found) c.step.result c.in-Err-Damaged.field-0
-    c.in-Err-Damaged.item c.in-Err-Damaged.stored c.in-Err-Damaged.found c.in-Err-Damaged.is c.in-Err-Damaged.field-0-is c.step.ensures.damaged here in
-    subst (λ (b : Booked g.row.G.Denot g.row.R.Denot). (e : Payloads) → RestIn b.rules b.history e (g.R.Disk.may_leave b.rig) → AreSealed b.rules b.history e → ⊥) c.self.view_is
-    (λ e rests whole. whole_undamaged l.rules l.history entry e c.in-Err-Damaged.item c.in-Err-Damaged.stored c.in-Err-Damaged.found c.len-len.ensures.legal
+    c.in-Err-Damaged.item c.in-Err-Damaged.stored c.in-Err-Damaged.found c.in-Err-Damaged.is c.in-Err-Damaged.field-0-is c.step.ensures.damaged here e rests in
+    subst (λ (b : Booked g.row.G.Denot g.row.R.Denot). AreSealed b.rules b.history b.payloads → ⊥) c.self.view_is
+    (λ whole. whole_undamaged l.rules l.history entry e c.in-Err-Damaged.item c.in-Err-Damaged.stored c.in-Err-Damaged.found c.len-len.ensures.legal
     (first_line (after l.rules l.history) c.moment_at-moment.result c.in-Some.what c.in-Some.ensures.legal c.in-Some.ensures.step)
-    puts.0 puts.1 (tells e rests) whole)
+    puts.0 puts.1 tells whole)
 
 pub returns-in-Ok-clause-payloads : goal.returns-in-Ok-clause-payloads
 returns-in-Ok-clause-payloads g c = λ plain.
@@ -126,19 +143,23 @@ returns-in-Ok-clause-payloads g c = λ plain.
     let areas = (c.self.invariant.0 c.if-self.false).areas here in
     let durable = c.in-Ok.ensures.durable here in
     let e = payloads_in (after l.rules l.history) (g.R.Disk.seen c.self.inside.rested.value) in
+    let rests = rests_with l.rules l.history e c.self.inside.down (g.R.Disk.seen c.self.inside.rig) (g.R.Disk.seen c.self.inside.opened.value) c.if-self.false (c.self.invariant.3 here)
+    (g.R.Disk.may_leave c.self.inside.rig) areas.rests in
     let entry : Entry = step_entry c.moment_at-moment.result c.in-Some.what in
     let longer : List Entry = l.history ++ entry ∷ [] in
     let line = first_line (after l.rules l.history) c.moment_at-moment.result c.in-Some.what c.in-Some.ensures.legal c.in-Some.ensures.step in
     of_first view c.args.self.now c.self.view_is c.args.now c.moment_at-moment.result m_is c.in-Some.what c.in-Some.ensures.step
     (λ (b : Booked g.row.G.Denot g.row.R.Denot) (k : ℕ) (w : What).
-    payloads_in (after now.rules now.history) (g.R.Disk.seen c.of-rested.result.value) ≡ payloads_after digest (state_in b) (step_entry k w) [] b.payloads)
-    (at_ledger (λ (r : RuleSet) (h : List Entry). payloads_in (after r h) (g.R.Disk.seen c.of-rested.result.value) ≡ payloads_after digest (after l.rules l.history) entry [] e)
-    l.rules now.rules longer now.history c.in-Ok.ensures.ok.rules c.in-Ok.ensures.ok.history
-    (subst (λ (x : g.row.R.Denot). payloads_in (after l.rules longer) (g.R.Disk.seen x) ≡ payloads_after digest (after l.rules l.history) entry [] e) (sym c.of-rested.ensures)
-    (grew_by l.rules l.history e c.self.inside.down (g.R.Disk.seen c.self.inside.rig) (g.R.Disk.seen c.self.inside.opened.value) c.if-self.false (c.self.invariant.3 here) entry []
-    (g.R.Disk.seen c.step.new.disk) (g.R.Disk.may_leave c.self.inside.rig) (g.R.Disk.may_leave c.step.new.disk) c.len-len.ensures.legal line
-    (g.met.R.Disk.reads_as_image c.self.inside.rig here) (g.met.R.Disk.reads_as_image c.step.new.disk next) areas.rests
-    (durable (payloads_in (after l.rules l.history) (g.R.Disk.seen c.self.inside.rig)) areas.rests))))
+    (payloads_in (after now.rules now.history) (g.R.Disk.seen c.of-rested.result.value) ≡ payloads_after digest (state_in b) (step_entry k w) [] b.payloads) × PutsSealed (state_in b) w b.payloads) (
+      at_ledger (λ (r : RuleSet) (h : List Entry). payloads_in (after r h) (g.R.Disk.seen c.of-rested.result.value) ≡ payloads_after digest (after l.rules l.history) entry [] e)
+          l.rules now.rules longer now.history c.in-Ok.ensures.ok.rules c.in-Ok.ensures.ok.history
+          (subst (λ (x : g.row.R.Denot). payloads_in (after l.rules longer) (g.R.Disk.seen x) ≡ payloads_after digest (after l.rules l.history) entry [] e) (sym c.of-rested.ensures)
+          (grew_by l.rules l.history e c.self.inside.down (g.R.Disk.seen c.self.inside.rig) (g.R.Disk.seen c.self.inside.opened.value) c.if-self.false (c.self.invariant.3 here) entry []
+          (g.R.Disk.seen c.step.new.disk) (g.R.Disk.may_leave c.self.inside.rig) (g.R.Disk.may_leave c.step.new.disk) c.len-len.ensures.legal line
+          (g.met.R.Disk.reads_as_image c.self.inside.rig here) (g.met.R.Disk.reads_as_image c.step.new.disk next) areas.rests
+          (durable (payloads_in (after l.rules l.history) (g.R.Disk.seen c.self.inside.rig)) areas.rests))),
+      c.in-Ok.ensures.sealed here e rests,
+    )
 
 pub invariant_of-self : goal.invariant_of-self
 invariant_of-self g c =
@@ -219,14 +240,13 @@ invariant_of-self-in-Err-Damaged g c =
       λ plain.
           let here = was_plain c.step.ensures.kind plain in
           let rests = ((c.self.invariant.0 c.if-self.false).areas here).rests in
-          let read = at_hurt (λ item stored found. Plain (g.R.Disk.told c.self.inside.rig) (g.R.Disk.honest c.self.inside.rig) → (o : Payloads) → RestIn l.rules l.history o (g.R.Disk.may_leave c.self.inside.rig) →
-          Leaves g.R.Disk.moment g.R.Disk.may_leave g.R.Disk.left_since (Rests l.rules l.history o) c.self.inside.rig c.step.new.disk) c.step.result c.in-Err-Damaged.field-0
-          c.in-Err-Damaged.item c.in-Err-Damaged.stored c.in-Err-Damaged.found c.in-Err-Damaged.is c.in-Err-Damaged.field-0-is c.step.ensures.only_read here
-          (payloads_in (after l.rules l.history) (g.R.Disk.seen c.self.inside.rig)) rests in
+          let read = read_rests l.rules l.history (payloads_in (after l.rules l.history) (g.R.Disk.seen c.self.inside.rig)) rests
+          (at_hurt (λ item stored found. Plain (g.R.Disk.told c.self.inside.rig) (g.R.Disk.honest c.self.inside.rig) → Runs g.R.Disk.moment g.R.Disk.may_leave g.R.Disk.left_since Same c.self.inside.rig c.step.new.disk) c.step.result c.in-Err-Damaged.field-0
+          c.in-Err-Damaged.item c.in-Err-Damaged.stored c.in-Err-Damaged.found c.in-Err-Damaged.is c.in-Err-Damaged.field-0-is c.step.ensures.only_read here) in
           at_ledger (λ (r : RuleSet) (h : List Entry). KeepsPayloads r h (payloads_in (after r h) (g.R.Disk.seen c.self.inside.rested.value)) c.self.inside.down (g.R.Disk.seen c.step.new.disk) (g.R.Disk.seen c.self.inside.opened.value))
           l.rules now.rules l.history now.history c.step.ensures.rules c.in-Err-Damaged.ensures.err
           (keeps_still l.rules l.history (payloads_in (after l.rules l.history) (g.R.Disk.seen c.self.inside.rested.value)) c.self.inside.down (g.R.Disk.seen c.self.inside.rig) (g.R.Disk.seen c.self.inside.opened.value)
-          c.if-self.false (c.self.invariant.3 here) (g.R.Disk.seen c.step.new.disk) (read.now (g.R.Disk.seen c.step.new.disk) (g.met.R.Disk.reads_as_image c.step.new.disk plain)).1),
+          c.if-self.false (c.self.invariant.3 here) (g.R.Disk.seen c.step.new.disk) (read (g.R.Disk.seen c.step.new.disk) (g.met.R.Disk.reads_as_image c.step.new.disk plain)).1),
       opening_still c.self.invariant.4 c.step.ensures.kind cause,
       claims_same l.rules now.rules l.history now.history l.held now.held c.self.inside.spare c.self.inside.spare c.self.inside.claims.items c.self.inside.claims.items (vec_capacity c.self.inside.claims) (vec_capacity c.self.inside.claims)
           c.step.ensures.rules c.in-Err-Damaged.ensures.err c.step.ensures.held refl c.self.invariant.5.room c.self.invariant.5,

@@ -12,4 +12,4 @@ pub returns : goal.returns
 returns g c =
     asks_some g.R.Disk c.args.self.now.moment c.args.self.now.lanes c.args.self.now.book c.read_object.new.self c.args.id c.len-at.result c.in-Some.row c.read_object.result c.err-fault.result c.read_object.new.buf
     c.len-at.ensures.legal c.len-at.ensures.value (sym c.get.ensures ∙ c.in-Some.is) c.read_object.ensures.answer c.read_object.ensures.cause c.read_object.ensures.kind c.err-fault.ensures.value
-    c.read_object.ensures.size c.read_object.ensures.reads c.standing-2.ensures.fell
+    c.read_object.ensures.size c.read_object.ensures.payload c.standing-2.ensures.fell

@@ -12,7 +12,7 @@ pub returns-in-Ok-Stepped : goal.returns-in-Ok-Stepped
 returns-in-Ok-Stepped g c =
     turned (standing_in g.R.Disk c.args.self.now.book c.args.self.now.moment c.args.self.now.lanes) (standing_in g.R.Disk c.begin-outcome.new.self c.args.self.now.moment c.args.self.now.lanes) c.args.now (Ok (turned_as.Stepped c.in-Ok-Stepped.position))
     c.len-len.ensures.legal
-    (begin_at g.R.Disk c.args.self.now.moment c.args.self.now.lanes c.args.self.now.book c.begin-outcome.new.self c.args.now c.standing.ensures.holds c.standing.ensures.sealed
+    (begin_at g.R.Disk c.args.self.now.moment c.args.self.now.lanes c.args.self.now.book c.begin-outcome.new.self c.args.now c.standing.ensures.sealed
     c.begin-outcome.result c.in-Ok-Stepped.field-0 (begun.Stepped c.in-Ok-Stepped.position) c.in-Ok-Stepped.is c.in-Ok-Stepped.field-0-is
     c.begin-outcome.ensures.answer c.begin-outcome.ensures.payloads c.begin-outcome.ensures.seals c.begin-outcome.ensures.cause c.begin-outcome.ensures.kind)
     c.standing-2.ensures.fell
@@ -21,7 +21,7 @@ pub returns-in-Ok-Idle : goal.returns-in-Ok-Idle
 returns-in-Ok-Idle g c =
     turned (standing_in g.R.Disk c.args.self.now.book c.args.self.now.moment c.args.self.now.lanes) (standing_in g.R.Disk c.begin-outcome.new.self c.args.self.now.moment c.args.self.now.lanes) c.args.now (Ok (turned_as.Idle c.in-Ok-Idle.len))
     c.len-len.ensures.legal
-    (begin_at g.R.Disk c.args.self.now.moment c.args.self.now.lanes c.args.self.now.book c.begin-outcome.new.self c.args.now c.standing.ensures.holds c.standing.ensures.sealed
+    (begin_at g.R.Disk c.args.self.now.moment c.args.self.now.lanes c.args.self.now.book c.begin-outcome.new.self c.args.now c.standing.ensures.sealed
     c.begin-outcome.result c.in-Ok-Idle.field-0 (begun.Idle c.in-Ok-Idle.len) c.in-Ok-Idle.is c.in-Ok-Idle.field-0-is
     c.begin-outcome.ensures.answer c.begin-outcome.ensures.payloads c.begin-outcome.ensures.seals c.begin-outcome.ensures.cause c.begin-outcome.ensures.kind)
     c.standing-2.ensures.fell
@@ -30,14 +30,14 @@ pub returns-in-Err : goal.returns-in-Err
 returns-in-Err g c =
     turned (standing_in g.R.Disk c.args.self.now.book c.args.self.now.moment c.args.self.now.lanes) (standing_in g.R.Disk c.begin-outcome.new.self c.args.self.now.moment c.args.self.now.lanes) c.args.now (Err c.in-Err.fault)
     c.len-len.ensures.legal
-    (begin_in g.R.Disk c.args.self.now.moment c.args.self.now.lanes c.args.self.now.book c.begin-outcome.new.self c.args.now c.standing.ensures.holds c.standing.ensures.sealed (Err c.in-Err.fault)
+    (begin_in g.R.Disk c.args.self.now.moment c.args.self.now.lanes c.args.self.now.book c.begin-outcome.new.self c.args.now c.standing.ensures.sealed (Err c.in-Err.fault)
     c.in-Err.ensures.answer c.in-Err.ensures.payloads c.in-Err.ensures.seals c.in-Err.ensures.cause c.begin-outcome.ensures.kind)
     c.standing-2.ensures.fell
 
 pub returns-in-Ok-Claimed : goal.returns-in-Ok-Claimed
 returns-in-Ok-Claimed g c = record {
   legal = c.len-len.ensures.legal;
-  same = begin_at g.R.Disk c.args.self.now.moment c.args.self.now.lanes c.args.self.now.book c.begin-outcome.new.self c.args.now c.standing.ensures.holds c.standing.ensures.sealed
+  same = begin_at g.R.Disk c.args.self.now.moment c.args.self.now.lanes c.args.self.now.book c.begin-outcome.new.self c.args.now c.standing.ensures.sealed
       c.begin-outcome.result c.in-Ok-Claimed.field-0 (begun.Claimed c.in-Ok-Claimed.claim) c.in-Ok-Claimed.is c.in-Ok-Claimed.field-0-is
       c.begin-outcome.ensures.answer c.begin-outcome.ensures.payloads c.begin-outcome.ensures.seals c.begin-outcome.ensures.cause c.begin-outcome.ensures.kind;
 }
