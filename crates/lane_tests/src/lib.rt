@@ -1,11 +1,13 @@
-//! Tests of a book that many share: seats by hand, and lanes and workers on threads, over a disk in memory and over files. Nothing
-//! else stands here.
+//! Tests of a book that many share: seats by hand, lanes and workers on threads, over a disk in memory and over files,
+//! and scripts with blocks through the top call. Nothing else stands here.
 #![tactic(auto)]
 
 #[cfg(test)]
 mod accounts;
 #[cfg(test)]
 mod blocks;
+#[cfg(test)]
+mod drawn;
 #[cfg(test)]
 mod files;
 #[cfg(test)]
@@ -26,3 +28,5 @@ mod seats;
 mod stores;
 #[cfg(test)]
 mod together;
+#[cfg(test)]
+mod top_calls;
