@@ -13,6 +13,7 @@ create 2 photo "b"
 link owns 1 2
 delete 1 job 40
 work 10
+show
 create 2 photo "n"
 restore 40
 work 10
