@@ -14,7 +14,7 @@ returns-clause-text g c = λ told plain e stands.
           let at = w.in-Ok in (
             settled_end g.R.Disk.may_leave g.R.Disk.faults old c.settle.new.self.rig c.into_disk.result clock e c.into_disk.ensures
                 at.ensures.answer.0 at.ensures.cause (at.ensures.settled plain) (still_as g.R.Disk.seen g.R.Disk.moment g.R.Disk.may_leave g.R.Disk.left_since old c.settle.new.self e
-          (record { legal = c.len-len.ensures.legal; image = g.met.R.Disk.reads_as_image old.rig plain; holds = c.standing.ensures.holds plain }) at.ensures.answer.0 (stands.rests at.ensures.answer.0) (at.ensures.crash plain at.ensures.answer.0)),
+                (record { legal = c.len-len.ensures.legal; image = g.met.R.Disk.reads_as_image old.rig plain; holds = c.standing.ensures.holds plain }) at.ensures.answer.0 (stands.rests at.ensures.answer.0) (at.ensures.crash plain at.ensures.answer.0)),
             refl,
           )))
       | in-Err-Down w ↦ rw w.status-is (rw w.sink-is (
