@@ -25,6 +25,8 @@ mod rounds;
 #[cfg(test)]
 mod seats;
 #[cfg(test)]
+mod sends;
+#[cfg(test)]
 mod stores;
 #[cfg(test)]
 mod together;
