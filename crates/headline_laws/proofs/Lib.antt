@@ -10,3 +10,4 @@ pub mod Keeping
 pub mod Finding
 pub mod Headline
 pub mod LaneGiven
+pub mod Reading

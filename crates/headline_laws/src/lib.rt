@@ -1,10 +1,11 @@
 //! What the serial meaning of a script comes to, over every script: the laws that lead from the lines of a run to the history and the
-//! payloads that it leaves. Each law is the contract of a function that does nothing.
+//! payloads that it leaves; and that an input has one reading. Each law is the contract of a function that does nothing.
 #![tactic(auto)]
 
 pub mod found;
 pub mod kept;
 pub mod places;
+pub mod readings;
 
 ghost use Rattle.std.specs.Prelude.{◌≡◌, ℕ, Bool, false, List};
 ghost use Rattle.delf_disk.specs.Causes.{Rose};
