@@ -1,4 +1,4 @@
-ghost use Rattle.std.specs.Prelude.{◌≡◌, ◌≤◌, ◌&&◌, length, nat_eq, true, false, [], None, IfOk, OnErr, Ok};
+ghost use Rattle.std.specs.Prelude.{◌≡◌, ◌≤◌, ◌&&◌, ℕ, length, nat_eq, true, false, [], None, IfOk, OnErr, Ok};
 ghost use Rattle.delf_disk.specs.Plain.{Plain};
 ghost use Rattle.entry_codec.specs.EntryHead.{AreEntries};
 ghost use Rattle.delf_model.specs.Legal.{Legal, is_legal};
@@ -144,6 +144,30 @@ impl<G: GraphStore> Fold<G> {
             rested,
             opened,
             rig,
+        }
+    }
+}
+
+impl<G: GraphStore + Drop> Fold<G> {
+    /// The fold of the same history under the same rules, over another graph with the rows and the refcount edge types of its
+    /// own. Takes no memory.
+    pub fn with_graph<H: GraphStore>(self, graph: H) -> Fold<H>
+        requires graph { H.graph graph ≡ G.graph self.store }
+        requires counts { (edge : ℕ) → H.counts graph edge ≡ G.counts self.store edge }
+        ensures rules { result.rules ≡ self.rules }
+        ensures history { result.history ≡ self.history }
+        ensures store { result.store ≡ graph }
+        ensures held { result.held ≡ self.held }
+    {
+        let Fold {
+            ledger,
+            carriers,
+            claims,
+        } = self;
+        Fold {
+            ledger: ledger.with_graph(graph),
+            carriers,
+            claims,
         }
     }
 }

@@ -4,4 +4,5 @@ pub mod Changes
 pub mod Entering
 pub mod Holding
 pub mod Judging
+pub mod Graphs
 pub mod Sizes

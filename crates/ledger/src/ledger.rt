@@ -57,6 +57,32 @@ impl<G: GraphStore> Model for Ledger<G> {
     ghost invariant = { λ l. KeepsState l.rules l.history.list l.jobs (G.graph l.graph) (G.counts l.graph) };
 }
 
+impl<G: GraphStore + Drop> Ledger<G> {
+    /// The same over another graph with the rows and the refcount edge types of its own. Takes no memory.
+    pub fn with_graph<H: GraphStore>(self, graph: H) -> Ledger<H>
+        requires graph { H.graph graph ≡ G.graph self.store }
+        requires counts { (edge : ℕ) → H.counts graph edge ≡ G.counts self.store edge }
+        ensures rules { result.rules ≡ self.rules }
+        ensures history { result.history ≡ self.history }
+        ensures store { result.store ≡ graph }
+        ensures held { result.held ≡ self.held }
+        ensures spare { result.spare ≡ self.spare }
+    {
+        let Ledger {
+            rules,
+            graph: _,
+            jobs,
+            history,
+        } = self;
+        Ledger {
+            rules,
+            graph,
+            jobs,
+            history,
+        }
+    }
+}
+
 impl<G: GraphStore> Ledger<G> {
     /// The ledger of the blank history over a blank graph. Takes no memory.
     pub fn new(alloc: Global, rules: Rules, graph: G) -> Ledger<G>
