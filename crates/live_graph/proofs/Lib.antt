@@ -2,3 +2,4 @@ pub mod Loops
 pub mod Objects
 pub mod Edges
 pub mod Ends
+pub mod Rebuilt

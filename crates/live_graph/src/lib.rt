@@ -2,6 +2,7 @@
 #![tactic(auto)]
 
 mod list_graph;
+mod rebuild;
 mod rows;
 mod shard_graph;
 #[cfg(test)]

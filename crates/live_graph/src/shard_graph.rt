@@ -14,8 +14,8 @@ use std::alloc::{AllocError, Global};
 /// logarithm of how many rows there are.
 #[derive(Drop)]
 pub struct ShardGraph {
-    objects: ObjectShards,
-    edges: EdgeIndex,
+    pub(crate) objects: ObjectShards,
+    pub(crate) edges: EdgeIndex,
     ghost ids_rise: { IsTrue (objects_rise (objects_of objects)) },
     ghost keys_rise: { IsTrue (edges_rise edges.edges) },
     ghost ends: { IsTrue (all_have_ends (objects_of objects) edges.edges) },
