@@ -9,3 +9,4 @@ pub mod Copies
 pub mod Counts
 pub mod Orders
 pub mod Changes
+pub mod Plains

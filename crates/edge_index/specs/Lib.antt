@@ -7,3 +7,5 @@ pub mod Refs
 pub mod IndexedEdges
 pub mod Tables
 pub mod Inside
+pub mod Plain
+pub mod InsidePlain

@@ -4,6 +4,7 @@
 mod edge_index;
 mod ends;
 mod links;
+mod plain;
 mod refs;
 mod shapes;
 mod shards;
@@ -12,3 +13,4 @@ mod tables;
 mod tests;
 
 pub use edge_index::EdgeIndex;
+pub use plain::PlainEdges;
