@@ -13,3 +13,4 @@ mod Longer
 mod Wholes
 mod Notes
 mod Pieces
+mod Widened

@@ -25,3 +25,5 @@ mod runs;
 mod scans;
 #[cfg(test)]
 mod stops;
+#[cfg(test)]
+mod wides;
