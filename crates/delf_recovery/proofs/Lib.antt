@@ -13,4 +13,3 @@ mod Longer
 mod Wholes
 mod Notes
 mod Pieces
-mod Widened

@@ -2,4 +2,3 @@ pub mod Opening
 pub mod Reading
 pub mod Mending
 pub mod Stretches
-pub mod PlainGraph

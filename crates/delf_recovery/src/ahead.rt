@@ -1,6 +1,5 @@
 //! An opening that reads ahead.
-ghost use Rattle.std.specs.Prelude.{◌≡◌, ◌⊎◌, ℕ, List, Ok, IfOk, IfErr};
-ghost use Rattle.std.specs.Fn.{FnOnceReturnsAtPair};
+ghost use Rattle.std.specs.Prelude.{◌≡◌, ◌⊎◌, ℕ, List, IfOk, IfErr};
 ghost use Rattle.delf_disk.specs.declared.area.Area.{Area as AnArea};
 ghost use Rattle.delf_disk.specs.Areas.{Areas};
 ghost use Rattle.delf_disk.specs.Images.{Only};
@@ -24,27 +23,19 @@ use crate::piece::Piece;
 use crate::read_ahead::ReadAhead;
 use delf_disk::Disk;
 use delf_model::{GraphStore, Rules};
-use std::alloc::{AllocError, Global};
+use std::alloc::Global;
 
 /// Opens the store that stands on the disk, where a sync was the last call. It reads in pieces. The disk comes back.
-fn open_synced<
-    G: GraphStore + Drop,
-    D: Disk,
-    T: Drop,
-    F: FnOnce(&Rules, &G) -> Result<T, AllocError>,
->(
+fn open_synced<G: GraphStore + Drop, D: Disk>(
     alloc: Global,
     rules: Rules,
     graph: G,
     disk: D,
-    make: F,
-) -> Result<(Parts<G, T>, D), (OpenFault, D)>
-    requires callable { F.IsAlwaysCallable make }
+) -> Result<(Parts<G>, D), (OpenFault, D)>
     requires blank { G.graph graph ≡ empty_graph }
     requires counts { (edge : ℕ) → G.counts graph edge ≡ is_refcount rules edge }
     requires only { Plain (D.told disk) (D.honest disk) → Only (D.seen disk) (D.may_leave disk) }
 
-    ensures made { IfOk result (λ it. FnOnceReturnsAtPair F.FnOnce make it.0.fold.rules it.0.fold.store (Ok it.0.made)) }
     ensures rules { IfOk result (λ it. it.0.fold.rules ≡ rules) }
     ensures legal { IfOk result (λ it. Legal rules it.0.fold.history) }
     ensures logs { IfOk result (λ it. KeepsLogs rules it.0.fold.history it.0.journal it.0.vault) }
@@ -83,30 +74,22 @@ fn open_synced<
         Err(_) => return Err((OpenFault::OutOfMemory, disk)),
     };
     let mut ahead = ReadAhead { disk, piece };
-    match open_parts(alloc, rules, graph, &mut ahead, make) {
+    match open_parts(alloc, rules, graph, &mut ahead) {
         Ok(parts) => Ok((parts, ahead.into_disk())),
         Err(fault) => Err((fault, ahead.into_disk())),
     }
 }
 
 /// Opens the store that stands on the disk, which it reads in pieces, with a sync first and last. The disk comes back.
-pub(crate) fn open_ahead<
-    G: GraphStore + Drop,
-    D: Disk,
-    T: Drop,
-    F: FnOnce(&Rules, &G) -> Result<T, AllocError>,
->(
+pub(crate) fn open_ahead<G: GraphStore + Drop, D: Disk>(
     alloc: Global,
     rules: Rules,
     graph: G,
     disk: D,
-    make: F,
-) -> Result<(Parts<G, T>, D), (OpenFault, D)>
-    requires callable { F.IsAlwaysCallable make }
+) -> Result<(Parts<G>, D), (OpenFault, D)>
     requires blank { G.graph graph ≡ empty_graph }
     requires counts { (edge : ℕ) → G.counts graph edge ≡ is_refcount rules edge }
 
-    ensures made { IfOk result (λ it. FnOnceReturnsAtPair F.FnOnce make it.0.fold.rules it.0.fold.store (Ok it.0.made)) }
     ensures rules { IfOk result (λ it. it.0.fold.rules ≡ rules) }
     ensures legal { IfOk result (λ it. Legal rules it.0.fold.history) }
     ensures logs { IfOk result (λ it. KeepsLogs rules it.0.fold.history it.0.journal it.0.vault) }
@@ -148,7 +131,7 @@ pub(crate) fn open_ahead<
         Ok(()) => (),
         Err(_) => return Err((OpenFault::DiskFault, disk)),
     }
-    match open_synced(alloc, rules, graph, disk, make) {
+    match open_synced(alloc, rules, graph, disk) {
         Ok(it) => Ok(it),
         Err(it) => Err(it),
     }

@@ -12,14 +12,11 @@ mod mending;
 mod open;
 mod parts;
 mod piece;
-mod plain;
 mod read_ahead;
 mod reading;
 mod scrubs;
 mod starting;
 mod vaults;
-mod wide;
 
 pub use fault::OpenFault;
 pub use open::open_book;
-pub use wide::open_wide;

@@ -93,7 +93,7 @@ pub fn open_book<G: GraphStore + Drop, R: Rig>(
     ensures cause { CountsOpening (R.Disk.faults rig) (R.Disk.faults (rig_in result)) result }
 {
     legal_is_sound();
-    match open_ahead(alloc, rules, graph, rig, |_rules: &Rules, _graph: &G| Ok(())) {
+    match open_ahead(alloc, rules, graph, rig) {
         Ok((parts, rig)) => Ok(parts.fold.into_book(parts.journal, parts.vault, rig)),
         Err(it) => Err(it),
     }

@@ -1,6 +1,5 @@
 //! An opening over a disk that is lent.
-ghost use Rattle.std.specs.Prelude.{◌≡◌, ℕ, List, Ok, IfOk, IfErr};
-ghost use Rattle.std.specs.Fn.{FnOnceReturnsAtPair};
+ghost use Rattle.std.specs.Prelude.{◌≡◌, ℕ, List, IfOk, IfErr};
 ghost use Rattle.delf_disk.specs.declared.area.Area.{Area as AnArea};
 ghost use Rattle.delf_disk.specs.Areas.{Areas};
 ghost use Rattle.delf_disk.specs.Images.{Only};
@@ -25,38 +24,28 @@ use delf_book::{Fold, fold};
 use delf_disk::Disk;
 use delf_model::{GraphStore, Rules};
 use gate_log::GateLog;
-use std::alloc::{AllocError, Global};
+use std::alloc::Global;
 use vault::Vault;
 
-/// What a book is made of, but for its disk, and what was made beside it.
+/// What a book is made of, but for its disk.
 #[derive(Drop)]
-pub(crate) struct Parts<G: GraphStore, T> {
+pub(crate) struct Parts<G: GraphStore> {
     pub(crate) fold: Fold<G>,
     pub(crate) journal: GateLog,
     pub(crate) vault: Vault,
-    pub(crate) made: T,
 }
 
-/// Opens the store that stands on the disk, where a sync was the last call. It ends with one. What else takes memory is made
-/// of the fold after both areas were read, before a place is mended.
-pub(crate) fn open_parts<
-    G: GraphStore + Drop,
-    D: Disk,
-    T: Drop,
-    F: FnOnce(&Rules, &G) -> Result<T, AllocError>,
->(
+/// Opens the store that stands on the disk, where a sync was the last call. It ends with one.
+pub(crate) fn open_parts<G: GraphStore + Drop, D: Disk>(
     alloc: Global,
     rules: Rules,
     graph: G,
     disk: &mut D,
-    make: F,
-) -> Result<Parts<G, T>, OpenFault>
-    requires callable { F.IsAlwaysCallable make }
+) -> Result<Parts<G>, OpenFault>
     requires blank { G.graph graph ≡ empty_graph }
     requires counts { (edge : ℕ) → G.counts graph edge ≡ is_refcount rules edge }
     requires only { Plain (D.told disk.old) (D.honest disk.old) → Only (D.seen disk.old) (D.may_leave disk.old) }
 
-    ensures made { IfOk result (λ parts. FnOnceReturnsAtPair F.FnOnce make parts.fold.rules parts.fold.store (Ok parts.made)) }
     ensures rules { IfOk result (λ parts. parts.fold.rules ≡ rules) }
     ensures legal { IfOk result (λ parts. Legal rules parts.fold.history) }
     ensures logs { IfOk result (λ parts. KeepsLogs rules parts.fold.history parts.journal parts.vault) }
@@ -96,10 +85,6 @@ pub(crate) fn open_parts<
         Ok(logs) => logs,
         Err(fault) => return Err(fault),
     };
-    let made = match make(fold.rules(), fold.graph()) {
-        Ok(made) => made,
-        Err(_) => return Err(OpenFault::OutOfMemory),
-    };
     let Logs {
         mut journal,
         mut vault,
@@ -119,6 +104,5 @@ pub(crate) fn open_parts<
         fold,
         journal: journal.log,
         vault: Vault::over(vault.log),
-        made,
     })
 }

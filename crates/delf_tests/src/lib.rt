@@ -25,5 +25,3 @@ mod runs;
 mod scans;
 #[cfg(test)]
 mod stops;
-#[cfg(test)]
-mod wides;

@@ -12,11 +12,11 @@ const NOTHING: &[u8] =
 
 // A disk that counts the reads and writes that it hands on.
 #[derive(Drop)]
-pub(crate) struct Counting<R: Rig> {
-    pub(crate) rig: R,
-    pub(crate) reads: u64,
-    pub(crate) writes: u64,
-    pub(crate) longest: usize,
+struct Counting<R: Rig> {
+    rig: R,
+    reads: u64,
+    writes: u64,
+    longest: usize,
 }
 
 impl<R: Rig> Model for Counting<R> {
@@ -107,7 +107,7 @@ fn run_over<R: Rig + Drop>(
 }
 
 // A load of this many commands over a blank disk.
-pub(crate) fn loaded(alloc: Global, size: &str) -> Result<(Status, MemDisk), AllocError> {
+fn loaded(alloc: Global, size: &str) -> Result<(Status, MemDisk), AllocError> {
     let disk = MemDisk::of(
         alloc,
         DiskBytes::of(alloc, &[])?,

@@ -47,16 +47,6 @@ returns-in-Err-clause-bad_crash g c = λ plain it at place.
 pub returns-in-Err-clause-longer : goal.returns-in-Err-clause-longer
 returns-in-Err-clause-longer g c = λ reading plain x image. (c.read_areas.ensures.longer plain).now x image
 
-pub returns-in-Err-make-clause-crash : goal.returns-in-Err-make-clause-crash
-returns-in-Err-make-clause-crash g c = λ plain h e but. c.read_areas.ensures.crash plain c.args.rules h e but
-
-pub returns-in-Err-make-clause-bad_crash : goal.returns-in-Err-make-clause-bad_crash
-returns-in-Err-make-clause-bad_crash g c = λ plain it at place.
-    leaves_widened (c.read_areas.ensures.longer plain) (λ x keeps. stays_bad c.args.rules (g.D.Disk.seen c.args.disk.now) x it at keeps place)
-
-pub returns-in-Err-make-clause-longer : goal.returns-in-Err-make-clause-longer
-returns-in-Err-make-clause-longer g c = λ reading plain x image. (c.read_areas.ensures.longer plain).now x image
-
 pub returns-clause-well : goal.returns-clause-well
 returns-clause-well g c = λ plain it at place.
     let f = c.read_areas.new.fold in
