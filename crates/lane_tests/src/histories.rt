@@ -147,8 +147,8 @@ fn count_standing(
     Some(k)
 }
 
-// How many entries are those of seats, and whether each has the moment of the clock.
-fn count_tagged(entries: &[Entry]) -> Option<u32> {
+/// How many entries are those of seats; None where one has not the moment of the clock.
+pub(crate) fn count_tagged(entries: &[Entry]) -> Option<u32> {
     let mut tagged = 0u32;
     for entry in entries {
         if entry.moment != NOW {

@@ -1,10 +1,13 @@
-//! Tests of a book that many share: lanes and workers on threads, over a disk in memory and over files. Nothing else stands here.
+//! Tests of a book that many share: lanes and workers on threads, over a disk in memory and over files,
+//! and of scripts with blocks through the top call. Nothing else stands here.
 #![tactic(auto)]
 
 #[cfg(test)]
 mod accounts;
 #[cfg(test)]
 mod blocks;
+#[cfg(test)]
+mod drawn;
 #[cfg(test)]
 mod files;
 #[cfg(test)]
@@ -23,3 +26,5 @@ mod rounds;
 mod stores;
 #[cfg(test)]
 mod together;
+#[cfg(test)]
+mod top_calls;

@@ -7,7 +7,7 @@ use delf_model::{EdgeNo, Moment, Rules, TypeNo};
 use delf_recovery::open_book;
 use live_graph::ShardGraph;
 use schema_lang::parse_schema;
-use std::alloc::Global;
+use std::alloc::{AllocError, Global};
 use std::test::Fail;
 
 // Users own photos, and albums hold them by references.
@@ -32,6 +32,14 @@ pub(crate) fn blank(alloc: Global, fails: &[u64]) -> Result<MemDisk, Fail> {
     let journal = DiskBytes::of(alloc, b"")?;
     let vault = DiskBytes::of(alloc, b"")?;
     Ok(MemDisk::of(alloc, journal, vault, Numbers::of(alloc, fails)?)?)
+}
+
+/// The document with this script under the schema of these tests.
+pub(crate) fn document_of(alloc: Global, script: &[u8]) -> Result<Vec<u8>, AllocError> {
+    let mut document = Vec::from_slice(alloc, SCHEMA)?;
+    document.extend_from_slice(b"script\n")?;
+    document.extend_from_slice(script)?;
+    Ok(document)
 }
 
 // The rules of these tests.
