@@ -1,4 +1,6 @@
-ghost use Rattle.std.specs.Prelude.{◌≡◌, ◌+◌, ◌<◌, ◌≤◌, ◌++◌, length, take};
+//! Writes the head of an entry: its moment, its kind and its fields.
+ghost use Rattle.std.specs.Prelude.{◌≡◌, ◌+◌, ◌<◌, ◌≤◌, ◌++◌, None, length, take};
+ghost use Rattle.delf_model.specs.Step.{tag_of};
 ghost use Rattle.entry_codec.specs.Field.{spelled, AreFields};
 ghost use Rattle.entry_codec.specs.EntryHead.{entry_kind, what_fields, entry_head, named_size, IsBounded, IsEntry};
 
@@ -56,6 +58,19 @@ fn put_what(out: &mut [u8], at: usize, what: &What) -> usize
             let at = put_tag(out, at, tag);
             put_word(out, at, job.0)
         }
+        _ => put_step(out, at, what),
+    }
+}
+
+/// The same of a step, which has no tag.
+fn put_step(out: &mut [u8], at: usize, what: &What) -> usize
+    requires room { at + 29 ≤ length out.old }
+    requires step { tag_of what.now ≡ None }
+    ensures next { result ≡ at + length (spelled (what_fields what.now)) }
+    ensures bytes { take result out.new ≡ take at out.old ++ spelled (what_fields what.now) }
+    ensures fields { AreFields (what_fields what.now) }
+{
+    match *what {
         What::Expire { id } => put_id(out, at, id),
         What::Cut {
             job,
@@ -76,6 +91,7 @@ fn put_what(out: &mut [u8], at: usize, what: &What) -> usize
             put_word(out, at, item)
         }
         What::Purge { job } => put_word(out, at, job.0),
+        _ => unreachable!(),
     }
 }
 

@@ -1,3 +1,4 @@
+//! Writes the head of an item: its kind, its fields and the digest of its payload.
 ghost use Rattle.std.specs.Prelude.{◌≡◌, ◌+◌, ◌≤◌, ◌++◌, length, take};
 ghost use Rattle.entry_codec.specs.Field.{spelled, AreFields};
 ghost use Rattle.entry_codec.specs.ItemHead.{item_kind, row_fields, item_head, item_size, IsTypeBounded, IsItem};

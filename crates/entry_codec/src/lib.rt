@@ -6,6 +6,7 @@ mod entry_reader;
 mod entry_writer;
 mod field_reader;
 mod field_writer;
+mod fits;
 mod item_reader;
 mod item_writer;
 mod laws;
@@ -13,6 +14,7 @@ mod limits;
 
 pub use entry_reader::read_entry;
 pub use entry_writer::write_entry;
+pub use fits::has_spelling;
 pub use item_reader::read_item;
 pub use item_writer::write_item;
 pub use laws::{entry_heads, item_heads};

@@ -1,3 +1,4 @@
+//! Heads of entries and items, spelled byte by byte and read back.
 ghost use Rattle.std.specs.Prelude.{◌<◌, ◌≤◌, ◌^◌};
 ghost use Rattle.entry_codec.specs.EntryHead.{IsBounded};
 ghost use Rattle.entry_codec.specs.ItemHead.{item_size, IsTypeBounded};

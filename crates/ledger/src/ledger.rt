@@ -1,3 +1,4 @@
+//! The ledger: a legal history with the graph and the table of its state, and the entries that may come next.
 ghost use Rattle.std.specs.Prelude.{◌≡◌, ◌+◌, ◌*◌, ◌<◌, ◌≤◌, ◌++◌, ◌∷◌, ◌&&◌, ℕ, IfOk, drop, length, nat_eq, [], true, false, Some, None, OnOk, IsTrue, slice_get, take, option_map};
 ghost use Rattle.entry_codec.specs.EntryHead.{AreEntries};
 ghost use Rattle.delf_model.specs.declared.entry.What.{What};
@@ -24,7 +25,7 @@ use crate::backs::position_back;
 use crate::edit::{carry_out, edit_of, make_room, record_size};
 use crate::entries::Entries;
 use crate::legal::is_legal;
-use crate::spelling::spell;
+use crate::spelling::is_spelled;
 use delf_model::{
     Call, Entry, GraphStore, Item, Job, JobLine, JobName, Listed, Moment, ObjectId, ObjectRow,
     Refusal, Rules, Status, Tag, What,
@@ -367,7 +368,7 @@ impl<G: GraphStore> Ledger<G> {
         ensures { HasEntered self.old self.new entry.now }
     {
         held_steps_stay();
-        spell(&self.rules, entry);
+        is_spelled(&self.rules, entry);
         let edit = edit_of(&self.graph, &self.jobs, &self.rules, entry);
         self.jobs.apply(&self.graph, &self.rules, entry);
         self.history.push(entry);

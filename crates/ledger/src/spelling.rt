@@ -4,15 +4,14 @@ ghost use Rattle.entry_codec.specs.EntryHead.{IsEntry};
 ghost use Rattle.delf_model.specs.State.{State};
 ghost use Rattle.delf_model.specs.Legal.{is_legal};
 
-use delf_model::{Entry, HEAD_LIMIT, Rules};
-use entry_codec::write_entry;
+use delf_model::{Entry, Rules};
+use entry_codec::has_spelling;
 
-/// Spells a legal entry, of which no more is needed than that it can be done.
-pub(crate) fn spell(rules: &Rules, entry: &Entry)
+/// A legal entry has a spelling. Nothing is spelled.
+pub(crate) fn is_spelled(rules: &Rules, entry: &Entry)
     requires { (s : State) × (rules.now ≡ s.rules) × (is_legal s entry.now ≡ true) }
     ensures { IsEntry entry.now }
 {
     let _kinds = rules.objects_len();
-    let mut head = [0; HEAD_LIMIT];
-    let _len = write_entry(entry, &mut head);
+    has_spelling(entry);
 }

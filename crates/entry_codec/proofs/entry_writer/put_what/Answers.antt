@@ -18,9 +18,3 @@ returns-in-Delete-clause-bytes c = rw (c.put_word-in-Delete.ensures.bytes, c.put
 
 pub returns-in-Restore-clause-bytes : goal.returns-in-Restore-clause-bytes
 returns-in-Restore-clause-bytes c = rw (c.put_word-in-Restore.ensures.bytes, c.put_tag-at-in-Restore.ensures.bytes, c.in-Restore.is, ← c.job.view_is) (simp append_assoc)
-
-pub returns-in-Cut-clause-bytes : goal.returns-in-Cut-clause-bytes
-returns-in-Cut-clause-bytes c = rw (c.put_ends-in-Cut.ensures.bytes, c.put_byte-at-in-Cut.ensures.bytes, c.put_word-at.ensures.bytes, c.in-Cut.is, ← c.job-in-Cut.view_is, ← c.edge-in-Cut.view_is) (simp append_assoc)
-
-pub returns-in-Erase-clause-bytes : goal.returns-in-Erase-clause-bytes
-returns-in-Erase-clause-bytes c = rw (c.put_id-in-Erase.ensures.bytes, c.put_word-at-in-Erase.ensures.bytes, c.in-Erase.is, ← c.job-in-Erase.view_is) (simp append_assoc)

@@ -17,11 +17,11 @@ invariant_of-self g c =
     let legal = legal_in _ _ c.args.entry.now c.self.view_is c.requires.legal in
     rw c.push.ensures.list
     (keeps_push c.self.inside.rules c.self.inside.history.list c.self.inside.jobs c.apply.new.self (g.G.GraphStore.graph c.self.inside.graph) _
-    (g.G.GraphStore.counts c.self.inside.graph) _ c.args.entry.now _ c.self.invariant legal c.spell.ensures
+    (g.G.GraphStore.counts c.self.inside.graph) _ c.args.entry.now _ c.self.invariant legal c.is_spelled.ensures
     (c.apply.ensures.table _ c.self.invariant.is_table c.self.invariant.is_graph legal)
     (c.edit_of-edit.ensures _ c.self.invariant.is_table c.self.invariant.is_graph) c.carry_out.ensures.graph c.carry_out.ensures.counts
     (c.held_steps_stay.ensures c.self.inside.rules c.self.inside.history.list c.self.invariant.is_legal) (held_in _ _ c.args.entry.now.what false c.self.view_is c.requires.free)
     c.apply.ensures.held)
 
-pub spell-requires : goal.spell-requires
-spell-requires g c = (after c.self.inside.rules c.self.inside.history.list, c.self.invariant.is_graph.rules, legal_in _ _ c.args.entry.now c.self.view_is c.requires.legal)
+pub is_spelled-requires : goal.is_spelled-requires
+is_spelled-requires g c = (after c.self.inside.rules c.self.inside.history.list, c.self.invariant.is_graph.rules, legal_in _ _ c.args.entry.now c.self.view_is c.requires.legal)
