@@ -1,3 +1,4 @@
+//! A claim with the record that logs it.
 ghost use Rattle.std.specs.Prelude.{◌≡◌, ◌≤◌, length};
 ghost use Rattle.sha2.specs.Sha256.{sha256};
 ghost use Rattle.entry_codec.specs.ItemHead.{IsItemHead};

@@ -1,3 +1,4 @@
+-- Which records nothing needs.
 use Rattle.std.specs.Prelude.{List, Contains}
 use Rattle.delf_model.specs.State.{State}
 use Rattle.delf_model.specs.Payloads.{Carrier}

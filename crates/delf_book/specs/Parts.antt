@@ -1,3 +1,4 @@
+-- What may stand beside the history after a disk fault.
 use Rattle.std.specs.Prelude.{ℕ, List}
 use Rattle.delf_model.specs.declared.entry.Entry.{Entry}
 

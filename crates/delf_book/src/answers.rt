@@ -1,3 +1,4 @@
+//! What the calls of a book answer.
 use delete_step::Claim;
 use delf_model::Job;
 

@@ -1,3 +1,4 @@
+//! The fold of the blank history.
 ghost use Rattle.std.specs.Prelude.{◌≡◌, ℕ, []};
 ghost use Rattle.delf_model.specs.RuleSet.{is_refcount};
 ghost use Rattle.delf_model.specs.Graph.{empty_graph};

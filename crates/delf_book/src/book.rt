@@ -1,3 +1,4 @@
+//! The book: a history with the disk that holds it, and what is read of it without the disk.
 ghost use Rattle.std.specs.Prelude.{◌≡◌, ◌≤◌, true, false, None, length, nat_eq, slice_get, take, IfSome};
 ghost use Rattle.delf_disk.specs.declared.area.Order.TheVariants.{FailAfter};
 ghost use Rattle.delf_disk.specs.Areas.{Areas};

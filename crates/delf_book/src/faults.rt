@@ -1,3 +1,4 @@
+//! Why an entry was not made.
 ghost use Rattle.std.specs.Prelude.{◌≡◌};
 ghost use Rattle.delf_book.specs.declared.faults.EntryFault.TheVariants.{OutOfMemory, Failed as EntryFailed};
 

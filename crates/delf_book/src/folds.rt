@@ -1,3 +1,4 @@
+//! A book without its disk, made entry by entry from the records of an area.
 ghost use Rattle.std.specs.Prelude.{◌≡◌, ◌≤◌, ◌&&◌, length, nat_eq, true, false, [], None, IfOk, OnErr, Ok};
 ghost use Rattle.delf_disk.specs.Plain.{Plain};
 ghost use Rattle.entry_codec.specs.EntryHead.{AreEntries};

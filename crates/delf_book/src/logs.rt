@@ -1,3 +1,4 @@
+//! The logs of both areas, and where the payload of each row stands.
 ghost use Rattle.std.specs.Prelude.{◌≡◌, ◌+◌, ◌-◌, ◌≤◌, vec_len, vec_capacity, OnOk};
 
 use gate_log::GateLog;

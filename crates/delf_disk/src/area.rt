@@ -1,3 +1,4 @@
+//! The words that disks and their callers share: the areas, the failed call and the orders.
 /// The two areas of a store.
 #[derive(Clone, Copy, Debug, PartialEq, Eq)]
 pub enum Area {

@@ -1,3 +1,4 @@
+//! Bytes and numbers that contracts see as lists.
 ghost use Rattle.std.specs.Prelude.{◌≡◌, ℕ, List, IfOk};
 
 use std::alloc::{AllocError, Global};

@@ -1,3 +1,4 @@
+//! What a disk in memory was told, from one stable moment to the next.
 ghost use Rattle.std.specs.Prelude.{◌≡◌, ◌<◌, [], ◌∷◌, ◌++◌, vec_len, vec_capacity, OnOk};
 
 use crate::area::Area;

@@ -1,3 +1,4 @@
+//! Why a store was not opened.
 ghost use Rattle.std.specs.Prelude.{◌≡◌};
 ghost use Rattle.delf_recovery.specs.declared.fault.OpenFault.TheVariants.{DiskFault as IsDiskFault, OutOfMemory as IsOutOfMemory};
 

@@ -1,3 +1,4 @@
+//! Areas byte by byte after each call, with disk calls that fail, and areas that are not whole.
 ghost use Rattle.std.specs.Prelude.{◌≤◌, length, IfOk, OnOk};
 ghost use Rattle.delf_disk.specs.Images.{Only};
 ghost use Rattle.delf_disk.specs.Plain.{Plain};

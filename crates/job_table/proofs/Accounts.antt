@@ -1,3 +1,4 @@
+-- What owners weigh: the owned objects of a job, counted over the graph and over the pairs of a table.
 use Rattle.std.proofs.Common.{◌≡◌, ℕ, ◌+◌, ◌≤◌, true, cond, ◌&&◌, List, [], ◌∷◌, ◌++◌, map, Option, Some, None, is_some, refl, sym, ◌∙◌, arith}
 use Rattle.std.specs.Prelude.{nat_eq, nat_le, is_none, count_by}
 use Rattle.std.proofs.lemmas.Bool.Decides.{nat_tests}

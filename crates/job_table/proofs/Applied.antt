@@ -1,3 +1,4 @@
+-- A table that was noted for an entry is the table of the state after it.
 use Rattle.std.proofs.Common.{◌≡◌, ℕ, ◌+◌, ◌-◌, ◌≤◌, Bool, true, false, cond, ◌&&◌, ◌∷◌, ◌++◌, [], Option, Some, None, is_some, sym, ◌∙◌, ap, subst, arith, refl}
 use Rattle.std.specs.Prelude.{nat_eq, is_none, sum_by}
 use Rattle.delf_model.specs.declared.rows.EdgeKey.{EdgeKey}

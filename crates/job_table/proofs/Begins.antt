@@ -1,3 +1,4 @@
+-- The entries that start a job: a Delete, an Unlink and an Expire.
 use Rattle.std.proofs.Common.{◌≡◌, ℕ, ◌+◌, ◌-◌, ◌≤◌, Bool, true, false, cond, not, ◌&&◌, ◌||◌, List, [], ◌∷◌, ◌++◌, map, Option, Some, None, is_some, refl, sym, ◌∙◌, ap, subst, arith}
 use Rattle.std.specs.Prelude.{nat_eq, is_none, sum_by}
 use Rattle.delf_model.specs.declared.rows.ObjectRow.{ObjectRow}

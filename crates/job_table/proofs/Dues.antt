@@ -1,3 +1,4 @@
+-- The objects that expire, by rising id.
 use Rattle.std.proofs.Common.{◌≡◌, ℕ, ◌<◌, ◌≤◌, Bool, true, false, cond, ◌&&◌, not, List, ◌∷◌, [], Option, Some, None, is_some, refl, sym, ◌∙◌, ap, subst, arith, ltb}
 use Rattle.std.specs.Prelude.{nat_lt, nat_le, find, is_none}
 use Rattle.std.proofs.lemmas.Bool.Decides.{nat_tests}

@@ -1,3 +1,4 @@
+-- Cuts and erasures: what they take of a job, and what it owns.
 use Rattle.std.proofs.Common.{◌≡◌, ℕ, ◌+◌, ◌-◌, ◌<◌, ◌≤◌, Bool, true, false, cond, not, ◌&&◌, ◌||◌, List, [], ◌∷◌, ◌++◌, map, Option, Some, None, is_some, refl, sym, ◌∙◌, ap, subst, inl, inr, ◌⊎◌, arith, eqb}
 use Rattle.std.specs.Prelude.{find, filter, nat_eq, is_none, sum_by}
 use Rattle.std.proofs.lemmas.List.Sums.{sum_by-cons}

@@ -1,3 +1,4 @@
+-- The first job that a test finds among the kept rows.
 use Rattle.std.proofs.Common.{◌≡◌, ℕ, zero, suc, ◌+◌, ◌<◌, Bool, true, false, cond, ◌&&◌, not, List, ◌∷◌, ◌++◌, [], map, length, get_or, Option, Some, None, is_some, refl, sym, ◌∙◌, ap, arith}
 use Rattle.std.specs.Prelude.{nat_eq, nat_lt, find, option_map, slice_get, count_by, is_none}
 use Rattle.std.specs.List.{position}

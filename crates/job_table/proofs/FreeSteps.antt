@@ -1,3 +1,4 @@
+-- Steps that no claim holds, found among the edges of an object.
 use Rattle.std.proofs.Common.{◌≡◌, ℕ, zero, suc, ◌+◌, ◌<◌, ◌≤◌, Bool, true, false, cond, not, ◌&&◌, ◌||◌, List, [], ◌∷◌, drop, length, Option, Some, None, refl, sym, ap, ◌∙◌, subst, arith}
 use Rattle.std.specs.Prelude.{find, filter, is_some, slice_get, nat_eq, option_map, option_and_then}
 use Rattle.std.specs.List.{list_any}

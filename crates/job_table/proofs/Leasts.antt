@@ -1,3 +1,4 @@
+-- The least object that a job owns.
 use Rattle.std.proofs.Common.{◌≡◌, ℕ, ◌<◌, ◌≤◌, Bool, true, false, cond, ◌&&◌, ◌||◌, not, List, ◌∷◌, [], map, Option, Some, None, refl, sym, ◌∙◌, ap, arith, ltb}
 use Rattle.std.specs.Prelude.{nat_eq, find, option_map, option_and_then}
 use Rattle.std.specs.List.{list_any}

@@ -1,3 +1,4 @@
+-- The listed items of a job, by place.
 use Rattle.std.proofs.Common.{◌≡◌, ℕ, zero, suc, ◌+◌, ◌-◌, ◌<◌, ◌≤◌, Bool, true, false, cond, ◌&&◌, List, ◌∷◌, ◌++◌, [], map, length, get_or, take, Option, Some, None, is_some, refl, sym, ◌∙◌, ap, arith, append_assoc}
 use Rattle.std.specs.Prelude.{nat_eq, slice_get}
 use Rattle.delf_model.specs.declared.call.Listed.{Listed}

@@ -1,3 +1,4 @@
+-- How owners move with an entry.
 use Rattle.std.proofs.Common.{◌≡◌, ℕ, ◌+◌, Bool, true, false, cond, ◌&&◌, List, [], ◌∷◌, ◌++◌, map, Option, Some, None, is_some, refl, sym, ◌∙◌, ap, arith}
 use Rattle.std.specs.Prelude.{find, filter, option_map, nat_eq, is_none}
 use Rattle.std.proofs.lemmas.Bool.Decides.{nat_tests}

@@ -1,3 +1,4 @@
+-- The steps that come next at a moment.
 use Rattle.std.proofs.Common.{◌≡◌, ℕ, zero, suc, ◌+◌, ◌<◌, Bool, true, false, cond, not, ◌&&◌, ◌||◌, List, [], ◌∷◌, Option, Some, None, refl, sym, ap, ◌∙◌, subst, arith, inl, inr, ◌⊎◌}
 use Rattle.std.specs.Prelude.{find, is_some, is_none, slice_get, nat_eq, nat_lt, nat_le, count_by}
 use Rattle.std.specs.List.{list_all}

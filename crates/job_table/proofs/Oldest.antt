@@ -1,3 +1,4 @@
+-- The oldest job among pairs of a moment and a job.
 use Rattle.std.proofs.Common.{◌≡◌, ℕ, zero, suc, ◌<◌, ◌≤◌, Bool, true, false, cond, not, ◌&&◌, ◌||◌, List, [], ◌∷◌, Option, Some, None, is_some, refl, sym, ap, ◌∙◌, arith, ◌⊎◌, inl, inr}
 use Rattle.std.specs.Prelude.{find, nat_eq, nat_lt, nat_le, count_by, slice_get, option_map, option_and_then}
 use Rattle.std.specs.List.{list_all}

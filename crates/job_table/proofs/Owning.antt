@@ -1,3 +1,4 @@
+-- Pairs of an object and its owner, in their two orders.
 use Rattle.std.proofs.Common.{◌≡◌, ℕ, zero, suc, ◌+◌, ◌-◌, ◌<◌, ◌≤◌, Bool, true, false, cond, not, ◌&&◌, ◌||◌, List, [], ◌∷◌, ◌++◌, length, get_or, Option, Some, None, refl, sym, ap, ◌∙◌, subst, arith}
 use Rattle.std.specs.Prelude.{find, is_some, nat_eq, nat_lt, option_map, insert, remove, slice_get, OnSome}
 use Rattle.std.specs.List.{list_any}

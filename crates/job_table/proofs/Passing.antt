@@ -1,3 +1,4 @@
+-- The owner of an object after an entry, and whether an edge passes it on.
 use Rattle.std.proofs.Common.{◌≡◌, ℕ, ◌<◌, Bool, true, false, cond, not, ◌&&◌, ◌||◌, List, [], ◌∷◌, map, Option, Some, None, is_some, refl, sym, ◌∙◌, ap, subst, inl, inr, ◌⊎◌, arith, eqb}
 use Rattle.std.specs.Prelude.{find, option_and_then, nat_eq, sum_by, count_by}
 use Rattle.std.specs.List.{list_all}

@@ -1,3 +1,4 @@
+-- Places in lists, and the change of an element at one.
 use Rattle.std.proofs.Common.{◌≡◌, ℕ, zero, suc, ◌+◌, ◌<◌, ◌≤◌, Bool, true, false, cond, ◌&&◌, ◌||◌, not, List, ◌∷◌, ◌++◌, [], map, length, get_or, take, set, Option, Some, None, refl, sym, ◌∙◌, ap, subst, arith, add-one}
 use Rattle.std.specs.Prelude.{nat_eq, nat_lt, max, find, option_map, sum_by}
 use Rattle.std.specs.List.{remove, position, position_or_len, list_any}

@@ -1,3 +1,4 @@
+-- Whether a job may be purged, by the queue of those whose window runs.
 use Rattle.std.proofs.Common.{◌≡◌, ℕ, zero, suc, ◌+◌, ◌<◌, ◌≤◌, Bool, true, false, cond, not, ◌&&◌, ◌||◌, List, [], ◌∷◌, map, length, get_or, Option, Some, None, refl, sym, ap, ◌∙◌, arith}
 use Rattle.std.specs.Prelude.{find, nat_eq, nat_lt, slice_get, is_some, is_none}
 use Rattle.std.specs.List.{position, list_any, position_or_len}

@@ -1,3 +1,4 @@
+-- What a legal put says of its item, and the state after it.
 use Rattle.std.proofs.Common.{◌≡◌, ℕ, ◌+◌, ◌-◌, ◌≤◌, Bool, true, cond, ◌&&◌, List, Option, Some, None, refl, sym, ◌∙◌, ap, subst, arith}
 use Rattle.std.specs.Prelude.{nat_eq, sum_by, count_by, slice_get}
 use Rattle.delf_model.specs.declared.rows.ObjectRow.{ObjectRow}

@@ -1,3 +1,4 @@
+-- The queue of restored jobs after an entry.
 use Rattle.std.proofs.Common.{◌≡◌, ℕ, zero, suc, ◌<◌, Bool, true, false, cond, List, [], ◌∷◌, ◌++◌, length, get_or, Option, Some, None, refl, sym, ap, ◌∙◌, arith}
 use Rattle.std.specs.Prelude.{find, nat_eq, nat_lt, count_by, slice_get, option_and_then}
 use Rattle.std.proofs.lemmas.Bool.Decides.{nat_tests}

@@ -1,3 +1,4 @@
+-- Look-ups of a job after a change of the rows.
 use Rattle.std.proofs.Common.{◌≡◌, ℕ, zero, suc, ◌+◌, ◌<◌, ◌≤◌, Bool, true, false, cond, not, ◌&&◌, ◌||◌, List, [], ◌∷◌, ◌++◌, map, Option, Some, None, is_some, refl, sym, ◌∙◌, ap, arith}
 use Rattle.std.specs.Prelude.{option_map, nat_eq, nat_lt, sum_by, slice_get, is_none}
 use Rattle.std.proofs.lemmas.Bool.Decides.{nat_tests}

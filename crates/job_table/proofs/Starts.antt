@@ -1,3 +1,4 @@
+-- A job that starts is not restored.
 use Rattle.std.proofs.Common.{◌≡◌, ℕ, ◌+◌, Bool, true, false, [], ◌∷◌, ◌++◌, refl, sym, ◌∙◌, ap, arith}
 use Rattle.std.specs.Prelude.{nat_eq}
 use Rattle.delf_model.specs.declared.ids.JobName.{JobName}

@@ -1,3 +1,4 @@
+-- What stays of a graph and its owners along an entry.
 use Rattle.std.proofs.Common.{◌≡◌, ℕ, ◌+◌, Bool, true, false, cond, not, ◌&&◌, ◌||◌, List, [], ◌∷◌, map, Option, Some, None, is_some, refl, sym, ◌∙◌, ap, subst, arith, eqb}
 use Rattle.std.specs.Prelude.{find, filter, option_and_then, nat_eq, nat_lt, count_by}
 use Rattle.std.specs.List.{list_all, list_any}

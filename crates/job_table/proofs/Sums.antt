@@ -1,3 +1,4 @@
+-- Sums over the objects and edges of a graph after a change.
 use Rattle.std.proofs.Common.{◌≡◌, ℕ, ◌+◌, ◌<◌, ◌≤◌, Bool, true, false, cond, not, ◌&&◌, ◌||◌, List, [], ◌∷◌, map, Option, Some, None, refl, ◌∙◌, ap, arith, ltb, eqb}
 use Rattle.std.specs.Prelude.{find, filter, sum_by}
 use Rattle.std.proofs.lemmas.Bool.Decides.{nat_tests}

@@ -1,3 +1,4 @@
+-- Sums over objects and edges whose owners move.
 use Rattle.std.proofs.Common.{◌≡◌, ℕ, ◌+◌, ◌<◌, ◌≤◌, Bool, true, false, cond, List, [], ◌∷◌, map, Option, Some, None, refl, sym, ◌∙◌, ap, arith, ltb, eqb}
 use Rattle.std.specs.Prelude.{find, filter, sum_by}
 use Rattle.std.proofs.lemmas.Bool.Decides.{nat_tests}

@@ -1,3 +1,4 @@
+-- The jobs that wait for the end of their window, after a row changed.
 use Rattle.std.proofs.Common.{◌≡◌, ℕ, zero, suc, ◌+◌, ◌-◌, ◌<◌, ◌≤◌, Bool, true, false, cond, not, ◌&&◌, ◌||◌, List, [], ◌∷◌, ◌++◌, map, length, get_or, set, Option, Some, None, refl, sym, ap, ◌∙◌, arith}
 use Rattle.std.specs.Prelude.{insert, remove, find, nat_eq, nat_lt, option_map, option_and_then, slice_get, is_some}
 use Rattle.std.specs.List.{position, list_any}

@@ -1,3 +1,4 @@
+//! The digest of a payload.
 ghost use Rattle.std.specs.Prelude.{◌≡◌, []};
 ghost use Rattle.sha2.specs.Sha256.{sha256};
 

@@ -1,3 +1,4 @@
+//! Digests that another implementation gave.
 use crate::digest_of;
 use std::test::Fail;
 

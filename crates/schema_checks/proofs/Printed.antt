@@ -1,3 +1,4 @@
+-- The table of first edges that routes are read from.
 use Rattle.std.proofs.Common.{◌≡◌, ◌<◌, ◌≤◌, ◌-◌, ◌∙◌, ℕ, zero, suc, true, false, List, [], ◌∷◌, Option, None, Some, ◌+◌, ◌++◌, length, length-append, below_more, get_or, sym, ap, subst, refl, arith, inl, inr}
 use Rattle.std.specs.Prelude.{slice_get}
 use Rattle.std.proofs.lemmas.Bool.{false≢true, cases_lt, cases_Bool}

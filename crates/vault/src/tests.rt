@@ -1,3 +1,4 @@
+//! Two records of the restoration log: their items, seals and payloads, and areas that are not whole.
 ghost use Rattle.std.specs.Prelude.{◌≤◌, length, IfOk, OnOk};
 ghost use Rattle.delf_disk.specs.Images.{Only};
 ghost use Rattle.delf_disk.specs.Plain.{Plain};
