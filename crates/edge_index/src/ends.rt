@@ -7,8 +7,8 @@ ghost use Rattle.edge_index.specs.Links.{Entry};
 ghost use Rattle.edge_index.specs.Ends.{at_source, at_target, places_at, place_of, is_near, has_near, rows_near, Placed, Rises, StandAt, TellsApart, IsOrderOf};
 
 use crate::links::Links;
-use crate::shards::{SHARDS, shard_of};
 use delf_model::{EdgeKey, EdgeRow, ObjectId};
+use id_hash::{SHARDS, shard_of};
 use std::alloc::{AllocError, Global};
 use std::collections::BTreeMap;
 use std::collections::btree_map::Range;

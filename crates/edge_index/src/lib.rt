@@ -6,9 +6,9 @@ mod ends;
 mod links;
 mod refs;
 mod shapes;
-mod shards;
 mod tables;
 #[cfg(test)]
 mod tests;
 
 pub use edge_index::EdgeIndex;
+pub use shapes::{is_counting, shapes_of};

@@ -9,9 +9,8 @@ ghost use Rattle.delf_model.specs.declared.rows.EdgeKey.{EdgeKey};
 ghost use Rattle.edge_index.specs.Keys.{edge_cmp, edge_eq};
 ghost use Rattle.edge_index.specs.Links.{row_of, rows_of, row_in, has_room, link_at, link_of, found, entries_at, all_entries, by_key};
 
-use crate::shards::{SHARDS, shard_of};
 use delf_model::{EdgeKey, EdgeRow};
-use id_hash::IdHash;
+use id_hash::{IdHash, SHARDS, shard_of};
 use indexmap::IndexMap;
 use std::alloc::{AllocError, Global};
 use std::marker::Model;

@@ -4,9 +4,8 @@ ghost use Rattle.edge_index.specs.Refs.{ref_in, count_in, counts_at, refs_at, re
 ghost use Rattle.edge_index.specs.Ends.{places_at, has_near};
 
 use crate::ends::{EndOrder, has_end};
-use crate::shards::{SHARDS, shard_of};
 use delf_model::ObjectId;
-use id_hash::IdHash;
+use id_hash::{IdHash, SHARDS, shard_of};
 use indexmap::IndexMap;
 use std::alloc::{AllocError, Global};
 

@@ -59,26 +59,6 @@ pub maps_all : {X : Type 0} (f : X → X) (xs ys : List X) (i : ℕ) → MapsInP
 maps_all f xs ys i m past =
     sym (take_whole i ys past) ∙ (m.front ∙ ap (map f) (take_whole i xs (let long = m.long in omega arith)))
 
--- a list that is copied from its front
-
-take_got : {X : Type 0} (xs : List X) (i : ℕ) (x : X) → slice_get xs i ≡ Some x → take i xs ++ x ∷ [] ≡ take (suc i) xs
-take_got [] i x is = absurd (cc is)
-take_got (y ∷ ys) zero x is = let same : y ≡ x = cc is in ap (λ z. z ∷ []) (sym same)
-take_got (y ∷ ys) (suc i) x is = ap (λ zs. y ∷ zs) (take_got ys i x is)
-
-take_past : {X : Type 0} (xs : List X) (i : ℕ) → slice_get xs i ≡ None → take i xs ≡ take (suc i) xs
-take_past [] zero is = refl
-take_past [] (suc i) is = refl
-take_past (y ∷ ys) zero is = absurd (cc is)
-take_past (y ∷ ys) (suc i) is = ap (λ zs. y ∷ zs) (take_past ys i is)
-
-pub copied_more : {X : Type 0} (xs old new : List X) (i : ℕ) (x : X) → old ≡ take i xs → Some x ≡ slice_get xs i → new ≡ old ++ x ∷ [] → new ≡ take (i + 1) xs
-copied_more xs old new i x front is more =
-    more ∙ ap (λ zs. zs ++ x ∷ []) front ∙ take_got xs i x (sym is) ∙ ap (λ n. take n xs) (sym (add-one i))
-
-pub copied_none : {X : Type 0} (xs old : List X) (i : ℕ) → old ≡ take i xs → None ≡ slice_get xs i → old ≡ take (i + 1) xs
-copied_none xs old i front is = front ∙ take_past xs i (sym is) ∙ ap (λ n. take n xs) (sym (add-one i))
-
 take_front : {X : Type 0} (xs ys : List X) → take (length xs) (xs ++ ys) ≡ xs
 take_front [] [] = refl
 take_front [] (y ∷ ys) = refl

@@ -1,14 +1,14 @@
+//! The plain program of a graph: two lists by rising id and by rising key.
 ghost use Rattle.std.specs.Prelude.{◌≡◌, ◌<◌, ◌^◌, IfOk, IsTrue, length};
 ghost use Rattle.delf_model.specs.Graph.{objects_rise, edges_rise};
 ghost use Rattle.live_graph.specs.Ends.{all_have_ends};
 
 use crate::rows::{
-    due_after, edge_place_of, edge_with, in_edge, insert_ready, object_with, out_edge, place_of,
-    rewrite, without_edge, without_object,
+    edge_place_of, edge_with, in_edge, object_with, out_edge, rewrite, without_edge, without_object,
 };
-use delf_model::{
-    EdgeKey, EdgeNo, EdgeRow, EdgeRule, EdgeShape, GraphStore, Moment, ObjectId, ObjectRow, Rules,
-};
+use delf_model::{EdgeKey, EdgeRow, EdgeShape, GraphStore, Moment, ObjectId, ObjectRow, Rules};
+use edge_index::{is_counting, shapes_of};
+use object_shards::{due_after, insert_ready, put_row};
 use std::alloc::{AllocError, Global};
 
 /// A graph as two lists, which scans them: what it does says what every other graph store is to do.
@@ -48,25 +48,8 @@ impl ListGraph {
     fn is_reference(&self, row: &EdgeRow, id: ObjectId) -> bool
         ensures { result ≡ is_counted (counts_of self.now) id row.now }
     {
-        let is_refcount = match self.shapes.get(row.key.edge.0 as usize) {
-            Some(shape) => matches!(shape.rule, EdgeRule::Refcount),
-            None => false,
-        };
-        is_refcount && row.key.to.get() == id.get()
+        is_counting(&self.shapes, row.key.edge) && row.key.to.get() == id.get()
     }
-}
-
-/// The edge types of the rules, by number.
-fn shapes_of(alloc: Global, rules: &Rules) -> Result<Vec<EdgeShape>, AllocError>
-    ensures { IfOk result (λ shapes. shapes.items ≡ rules.now.edges) }
-{
-    let mut shapes = Vec::new(alloc);
-    for edge in 0..rules.edges_len() {
-        if let Some(shape) = rules.edge(EdgeNo(edge as u8)) {
-            shapes.push(shape)?;
-        }
-    }
-    Ok(shapes)
 }
 
 impl GraphStore for ListGraph {
@@ -133,8 +116,7 @@ impl GraphStore for ListGraph {
     }
 
     fn put_object(&mut self, row: ObjectRow) {
-        let place = place_of(&self.objects, row.id);
-        insert_ready(&mut self.objects, place, row);
+        put_row(&mut self.objects, row);
     }
 
     fn rewrite_object(&mut self, id: ObjectId, at: u32, size: u16) {

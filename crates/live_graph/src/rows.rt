@@ -1,30 +1,11 @@
-ghost use Rattle.std.specs.Prelude.{◌≡◌, ◌<◌, ◌≤◌, IsTrue, find, filter, count_by, length, map, slice_get, vec_len, vec_capacity};
-ghost use Rattle.std.specs.List.{insert};
+//! Rows in two lists, objects by rising id and edges by rising key: the look-ups, and what one call changes.
+ghost use Rattle.std.specs.Prelude.{◌≡◌, IsTrue, find, filter, map, slice_get};
 ghost use Rattle.delf_model.specs.Graph.{objects_rise, has_id, has_key, leaves_from, leads_to, rewritten, is_other_object, is_other_edge};
 ghost use Rattle.delf_model.specs.Graph.{same_key as is_same_key, key_before as is_before};
-ghost use Rattle.delf_model.specs.Store.{least_due};
-ghost use Rattle.live_graph.specs.Places.{place_in, edge_place_in};
+ghost use Rattle.live_graph.specs.Places.{edge_place_in};
 
-use delf_model::{EdgeKey, EdgeRow, Moment, ObjectId, ObjectRow};
-
-/// The number of rows with a lesser id, which is the place of this id in the order.
-pub fn place_of(rows: &[ObjectRow], id: ObjectId) -> usize
-    requires { IsTrue (objects_rise rows.now) }
-    ensures { result ≡ place_in id rows.now }
-{
-    let id = id.get();
-    let mut low = 0;
-    let mut high = rows.len();
-    'halves: while low < high {
-        let middle = low + (high - low) / 2;
-        if rows[middle].id.get() < id {
-            low = middle + 1;
-        } else {
-            high = middle;
-        }
-    }
-    low
-}
+use delf_model::{EdgeKey, EdgeRow, ObjectId, ObjectRow};
+use object_shards::place_of;
 
 /// The row with this id.
 pub fn object_with(rows: &[ObjectRow], id: ObjectId) -> Option<ObjectRow>
@@ -114,24 +95,6 @@ pub fn in_edge(rows: &[EdgeRow], id: ObjectId, i: u32) -> Option<EdgeRow>
         }
     }
     None
-}
-
-/// The least id above `after` whose due is above 0 and at most this moment.
-pub fn due_after(rows: &[ObjectRow], moment: Moment, after: Option<ObjectId>) -> Option<ObjectId>
-    ensures { result ≡ least_due moment after rows.now }
-{
-    let after = after.map_or(0, |id| id.get());
-    let row = rows.iter().find(|row| after < row.id.get() && 0 < row.due && row.due <= moment)?;
-    Some(row.id)
-}
-
-/// Puts a value where a place is free.
-pub fn insert_ready<T: Copy>(list: &mut Vec<T>, place: usize, item: T)
-    requires place { place ≤ vec_len list.old }
-    requires ready { vec_len list.old < vec_capacity list.old }
-    ensures { list.new.items ≡ insert list.old.items place item }
-{
-    let _ = list.insert(place, item);
 }
 
 /// Gives the row with this id a new payload: the position that gave it and its size.

@@ -13,3 +13,4 @@ mod tables;
 mod tests;
 
 pub use object_shards::ObjectShards;
+pub use rows::{due_after, insert_ready, place_of, put_row};

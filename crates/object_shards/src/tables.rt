@@ -5,16 +5,14 @@ ghost use Rattle.object_shards.specs.Tables.{rows_at, room_at, all_put, joined, 
 
 use crate::table::ObjectTable;
 use delf_model::{ObjectId, ObjectRow};
+use id_hash::{SHARDS, shard_of};
 use std::alloc::{AllocError, Global};
 
-/// How many tables there are.
-const TABLES: usize = 16;
-
-/// The number of the table of this id.
+/// The number of the table of this id: that of its shard.
 fn table_of(id: ObjectId) -> usize
     ensures { result ≡ id % 16 }
 {
-    (id.get() % 16) as usize
+    shard_of(id.get())
 }
 
 /// Tables without rows. The only error is want of memory.
@@ -22,8 +20,8 @@ fn empty_tables(alloc: Global) -> Result<Vec<ObjectTable>, AllocError>
     ensures count { IfOk result (λ tables. length tables.items ≡ 16) }
     ensures none { IfOk result (λ tables. (table : ℕ) → rows_at tables.items table ≡ []) }
 {
-    let mut tables = Vec::with_capacity(alloc, TABLES)?;
-    'tables: while tables.len() < TABLES {
+    let mut tables = Vec::with_capacity(alloc, SHARDS)?;
+    'tables: while tables.len() < SHARDS {
         tables.push(ObjectTable::empty(alloc))?;
     }
     Ok(tables)

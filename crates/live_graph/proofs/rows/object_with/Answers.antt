@@ -1,5 +1,5 @@
 use Rattle.std.proofs.Common.{arith}
-use Rattle.live_graph.proofs.Objects.{find_past, find_found, find_other}
+use Rattle.object_shards.proofs.Ids.{find_past, find_found, find_other}
 use Rattle.live_graph.proofs.rows.object_with.Goals as goal
 
 pub returns-then-place-rows : goal.returns-then-place-rows

@@ -2,7 +2,7 @@ use Rattle.std.proofs.Common.{◌+◌, List, sym, subst, arith}
 use Rattle.delf_model.specs.declared.rows.ObjectRow.{ObjectRow}
 use Rattle.delf_model.specs.Graph.{rewritten}
 use Rattle.live_graph.proofs.Loops.{MapsInPlace, maps_more, maps_same}
-use Rattle.live_graph.proofs.Objects.{rewritten_hit, rewritten_miss}
+use Rattle.object_shards.proofs.Ids.{rewritten_hit, rewritten_miss}
 use Rattle.live_graph.proofs.rows.rewrite.Goals as goal
 use Rattle.live_graph.proofs.rows.rewrite.Goals.{then-get, else-get}
 
