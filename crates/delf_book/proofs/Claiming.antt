@@ -1,6 +1,6 @@
 -- What an entry, a claim more and a claim less leave of the claims.
-use Rattle.std.proofs.Common.{◌≡◌, ℕ, zero, suc, ◌+◌, ◌<◌, ◌≤◌, Bool, true, false, cond, ◌||◌, List, [], ◌∷◌, ◌++◌, length, get_or, Some, None, refl, sym, ap, ◌∙◌, subst, arith, eqb}
-use Rattle.std.proofs.lemmas.Bool.{or_parts, or_from, or_left, or_right, eqb-true, false≢true}
+use Rattle.std.proofs.Common.{◌≡◌, ℕ, zero, suc, ◌+◌, ◌<◌, ◌≤◌, Bool, true, false, cond, ◌||◌, List, [], ◌∷◌, ◌++◌, length, get_or, Some, None, refl, sym, ap, ◌∙◌, subst, arith}
+use Rattle.std.proofs.lemmas.Bool.{or_parts, or_left, or_right}
 use Rattle.std.specs.Prelude.{Contains, slice_index_or}
 use Rattle.std.specs.List.{AllByRecursion, remove, position}
 use Rattle.std.proofs.lemmas.List.Quantifiers.{position-Some}
@@ -10,10 +10,8 @@ use Rattle.delf_model.specs.declared.entry.What.{What}
 use Rattle.delf_model.specs.declared.entry.What.TheVariants.{Cut, Erase}
 use Rattle.delf_model.specs.declared.rows.EdgeKey.{EdgeKey}
 use Rattle.delf_model.specs.RuleSet.{RuleSet}
-use Rattle.delf_model.specs.Graph.{same_key}
 use Rattle.delf_model.specs.State.{State, position_of}
 use Rattle.delf_model.specs.Step.{step, after}
-use Rattle.delf_model.specs.Owners.{key_of}
 use Rattle.delf_model.specs.Legal.{Legal, is_legal}
 use Rattle.delf_model.specs.Room.{greatest_moment}
 use Rattle.delf_model.specs.Order.{erases_same, is_held}
@@ -21,7 +19,6 @@ use Rattle.delf_model.specs.declared.rows.Item.{Item}
 use Rattle.delf_model.specs.declared.rows.Item.TheVariants as item
 use Rattle.delf_model.specs.Payloads.{Payloads, Journal, is_needed, payload_at, payloads_after}
 use Rattle.delf_model.proofs.Good.{good_after}
-use Rattle.delf_model.proofs.Graphs.{same_key_is}
 use Rattle.delf_model.proofs.Runs.{after_push, Legal_push}
 use Rattle.payload_laws.proofs.Moves.{payloads_held}
 use Rattle.job_table.specs.Table.{given_up}
@@ -187,31 +184,6 @@ module _ (rules : RuleSet) (h : List Entry) (legal : Legal rules h) (claims : Li
       (λ same. let below : p < s.len = (payloads_held rules h legal).held.below p needed.0 in omega (arith, below, same)) ∙ is)
       (each_both {P = NeededIn s} {Q = NeededIn (step s entry)} {R = λ (claim : ClaimView). NeededIn s claim × NeededIn (step s entry) claim} claims (λ claim was still. (was, still)) needed_now (needed_on entry line free))
       read
-
--- steps that take one row take no other
-
-erases_same_on : (a b c : What) → erases_same a b ≡ true → erases_same a c ≡ erases_same b c
-erases_same_on (Cut job edge from to) (Cut other edge' from' to') (Cut third edge'' from'' to'') same =
-    ap (λ (k : EdgeKey). same_key k (key_of edge'' from'' to'')) (same_key_is (key_of edge from to) (key_of edge' from' to') same)
-erases_same_on (Cut job edge from to) (Cut other edge' from' to') c same = refl
-erases_same_on (Cut job edge from to) b c same = absurd (false≢true same)
-erases_same_on (Erase job id) (Erase other id') (Erase third id'') same = ap (λ (n : ℕ). eqb n id'') (eqb-true id id' same)
-erases_same_on (Erase job id) (Erase other id') c same = refl
-erases_same_on (Erase job id) b c same = absurd (false≢true same)
-erases_same_on a b c same = absurd (false≢true same)
-
-held_same : (a b : What) (held : List What) → erases_same a b ≡ true → is_held held a ≡ is_held held b
-held_same a b [] same = refl
-held_same a b (x ∷ xs) same = cc (erases_same_on a b x same, held_same a b xs same)
-
--- what is given up is held no more
-pub given_up_free : (s : State) (held : List What) (what : What) → AreHeld s held → is_held (given_up what held) what ≡ false
-given_up_free s [] what are = refl
-given_up_free s (x ∷ xs) what are = by_hit (given_up_free s xs what are.2) (erases_same what x) refl
-  where
-    by_hit : is_held (given_up what xs) what ≡ false → (b : Bool) → erases_same what x ≡ b → is_held (cond b xs (x ∷ given_up what xs)) what ≡ false
-    by_hit rest true same = held_same what x xs same ∙ are.1
-    by_hit rest false apart = or_from (erases_same what x) (is_held (given_up what xs) what) apart rest
 
 -- the step of an item takes a row
 pub takes_of : (it : Item) → takes_row (taken_by it) ≡ true

@@ -8,7 +8,7 @@ use Rattle.delf_disk.specs.declared.area.Area.TheVariants as area
 use Rattle.gate_log.specs.Records.{Record, size_of, head_of, payload_of}
 use Rattle.gate_log.specs.Logs.{Stands, StandIn}
 use Rattle.gate_log.specs.Places.{size_in}
-use Rattle.vault.specs.Items.{seal_of}
+use Rattle.store_laws.specs.Stores.{seal_of}
 use Rattle.vault.specs.Fetching.{Fetched, Compared, Differs}
 use Rattle.vault.specs.declared.fault.FetchFault.{FetchFault}
 use Rattle.vault.specs.declared.fault.FetchFault.TheVariants.{Failed, Damaged}

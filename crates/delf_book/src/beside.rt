@@ -1,10 +1,11 @@
+//! The entry that may stand beside the history after a disk fault.
 ghost use Rattle.std.specs.Prelude.{◌≡◌, ◌≤◌, length};
 ghost use Rattle.delf_model.specs.declared.TheConstants.{LIMIT};
 ghost use Rattle.delf_model.specs.Room.{greatest_moment};
 ghost use Rattle.entry_codec.specs.EntryHead.{IsBounded, IsEntry};
 
-use delf_model::{Entry, HEAD_LIMIT, LIMIT};
-use entry_codec::write_entry;
+use delf_model::{Entry, LIMIT};
+use entry_codec::has_spelling;
 use std::marker::Model;
 
 /// The entry of a call or step that met a disk fault, with the payload that it was given. It is kept without memory.
@@ -35,8 +36,7 @@ impl Beside {
         ensures entry { result.entry ≡ entry.now }
         ensures payload { result.payload ≡ payload.now }
     {
-        // What is written of it tells that it has a spelling.
-        let _len = write_entry(entry, &mut [0; HEAD_LIMIT]);
+        has_spelling(entry);
         let mut bytes = [0; LIMIT];
         bytes[..payload.len()].copy_from_slice(payload);
         let what = entry.what;

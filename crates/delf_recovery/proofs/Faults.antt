@@ -1,9 +1,8 @@
 -- Where an area is faulty, and that one which reads well is not.
-use Rattle.std.proofs.Common.{◌≡◌, ℕ, ◌+◌, ◌<◌, ◌≤◌, Bool, true, false, leb, List, [], ◌∷◌, ◌++◌, length, map, take, Some, refl, sym, ap, ◌∙◌, subst, arith, inl, inr, ◌-◌, drop, length-append, length-drop, length-take}
+use Rattle.std.proofs.Common.{◌≡◌, ℕ, ◌+◌, ◌<◌, ◌≤◌, List, [], ◌∷◌, ◌++◌, length, map, take, Some, refl, sym, ap, ◌∙◌, subst, arith, inl, inr, ◌-◌, drop, length-append, length-drop, length-take}
 use Rattle.std.specs.Prelude.{slice_get}
 use Rattle.std.proofs.lemmas.Option.{same_Some}
 use Rattle.std.proofs.lemmas.List.{length-map}
-use Rattle.std.proofs.lemmas.Bool.{leb-true}
 use Rattle.delf_disk.specs.declared.area.Area.{Area}
 use Rattle.delf_disk.specs.declared.area.Area.TheVariants as area
 use Rattle.delf_disk.specs.Areas.{Areas}
@@ -11,9 +10,8 @@ use Rattle.gate_log.specs.Records.{Record, spelled as spelled_records}
 use Rattle.gate_log.specs.Logs.{Log}
 use Rattle.gate_log.specs.Opening.{Fits, IsForeign}
 use Rattle.entry_codec.specs.Field.{spelled}
-use Rattle.entry_codec.specs.ItemHead.{IsItemHead, item_head, item_fields}
+use Rattle.entry_codec.specs.ItemHead.{item_head, item_fields}
 use Rattle.delf_model.specs.declared.entry.Entry.{Entry}
-use Rattle.delf_model.specs.declared.rows.Item.{Item}
 use Rattle.delf_model.specs.RuleSet.{RuleSet}
 use Rattle.delf_model.specs.State.{Logged}
 use Rattle.delf_model.specs.Step.{after}
@@ -21,46 +19,39 @@ use Rattle.delf_model.specs.Payloads.{Payloads}
 use Rattle.store_laws.specs.Logged.{held, IsArea}
 use Rattle.store_laws.specs.Stores.{StandBut, vault_mark, head_in, length_in, seal_in, seals_of, item_heads, logged_size}
 use Rattle.store_laws.proofs.Spelled.{log_told}
-use Rattle.opening_laws.specs.Places.{Begins, IsRecordOfItem, AreRecordsOfItems, IsBadItem, Broken, WrongItem, Fewer, TwoMore, BadVault, BadPlace, ReadsJournal}
+use Rattle.opening_laws.specs.Places.{Begins, IsRecordOfItem, AreRecordsOfItems, IsBadItemBy, IsBadItem, Broken, WrongItem, Fewer, TwoMore, BadVault, BadPlace, ReadsJournal}
 use Rattle.opening_laws.proofs.Fronts.{GoesOn, fronts, NextRecord, next_or_same, not_foreign, same_fronts}
-use Rattle.opening_laws.proofs.Bad.{journal_reads_well, one_reading, one_place}
+use Rattle.opening_laws.proofs.Bad.{journal_reads_well, longer_log, one_reading, one_place, item_of, gate_there}
 use Rattle.delf_recovery.specs.declared.fault.OpenFault.{OpenFault}
 use Rattle.delf_recovery.specs.declared.fault.OpenFault.TheVariants.{DiskFault, OutOfMemory, BadStore}
 use Rattle.delf_recovery.specs.Opening.{IsBadAt, IsNotBad}
-use Rattle.delf_recovery.specs.Reading.{SpellsItem, IsFaulty, Unfit, Another, Few, Many, FaultyVault, ShowsFaulty, ShowsBadJournal, ReadsVault, TellsPlace}
+use Rattle.delf_recovery.specs.Reading.{SpellsItem, SpellsLogged, FaultyVault, ShowsFaulty, ShowsBadJournal, ReadsVault, TellsPlace}
 use Rattle.delf_recovery.proofs.ItemRecords.{same_item_size, some_field}
 use Rattle.delf_recovery.proofs.Spelled.{stand_reads}
 use Rattle.delf_recovery.proofs.Started.{blank_held}
 
--- there is a gate behind the records
-gate_there : (Q : Item → Record → Type 0) (items : List Logged) (front : List Record) (rest : List ℕ) → IsFaulty Q items front rest → (v : ℕ) × (y : List ℕ) × (rest ≡ v ∷ y)
-gate_there Q items front rest (Unfit y opened unfit) = (165, y, opened)
-gate_there Q items front rest (Another y r logged opened fits there wrong) = (165, y, opened)
-gate_there Q items front rest (Few gate y opened closed fewer) = (gate, y, opened)
-gate_there Q items front rest (Many y opened more) = (165, y, opened)
-
 -- a log whose records have Q is not faulty by it
-module _ (Q : Item → Record → Type 0) (items : List Logged) (bytes : List ℕ) (front : List Record) (rest : List ℕ) (begins : Begins vault_mark front rest bytes)
+module _ (Q : Logged → Record → Type 0) (items : List Logged) (bytes : List ℕ) (front : List Record) (rest : List ℕ) (begins : Begins vault_mark front rest bytes)
     (log : Log vault_mark (held bytes) bytes) (some : length items ≤ length (held bytes)) (few : length (held bytes) ≤ length items + 1)
-    (each : (prefix : List Record) (m : Record) (ms : List Record) (logged : Logged) → held bytes ≡ prefix ++ m ∷ ms → slice_get items (length prefix) ≡ Some logged → Q logged.item m) where
-  at_same : held bytes ≡ front → rest ≡ log.gate ∷ log.tail → IsFaulty Q items front rest → ⊥
-  at_same same is (Unfit y opened unfit) = log.closed (let e : log.gate ≡ 165 = cc (is, opened) in e)
-  at_same same is (Another y r logged opened fits there wrong) = log.closed (let e : log.gate ≡ 165 = cc (is, opened) in e)
-  at_same same is (Few gate y opened closed fewer) = omega (arith, fewer, some, ap length same)
-  at_same same is (Many y opened more) = log.closed (let e : log.gate ≡ 165 = cc (is, opened) in e)
+    (each : (prefix : List Record) (m : Record) (ms : List Record) (logged : Logged) → held bytes ≡ prefix ++ m ∷ ms → slice_get items (length prefix) ≡ Some logged → Q logged m) where
+  at_same : held bytes ≡ front → rest ≡ log.gate ∷ log.tail → IsBadItemBy Q items front rest → ⊥
+  at_same same is (Broken y opened unfit) = log.closed (let e : log.gate ≡ 165 = cc (is, opened) in e)
+  at_same same is (WrongItem y r logged opened fits there wrong) = log.closed (let e : log.gate ≡ 165 = cc (is, opened) in e)
+  at_same same is (Fewer gate y opened closed fewer) = omega (arith, fewer, some, ap length same)
+  at_same same is (TwoMore y opened more) = log.closed (let e : log.gate ≡ 165 = cc (is, opened) in e)
 
-  at_next : NextRecord front (held bytes) rest → IsFaulty Q items front rest → ⊥
-  at_next next (Unfit y opened unfit) =
+  at_next : NextRecord front (held bytes) rest → IsBadItemBy Q items front rest → ⊥
+  at_next next (Broken y opened unfit) =
       let same : next.rest ≡ y = cc (next.opened, opened) in
       unfit next.m.head next.m.payload (subst (Fits next.m.head next.m.payload) same next.fits)
-  at_next next (Another y r logged opened fits there wrong) =
+  at_next next (WrongItem y r logged opened fits there wrong) =
       let same : y ≡ next.rest = cc (next.opened, opened) in
       let is : r ≡ next.m = next.whole r (subst (Fits r.head r.payload) same fits) in
-      wrong (subst (Q logged.item) (sym is) (each front next.m next.ms logged next.is there))
-  at_next next (Few gate y opened closed fewer) = closed (let e : gate ≡ 165 = cc (next.opened, opened) in e)
-  at_next next (Many y opened more) = omega (arith, few, more, ap length next.is, length-append front (next.m ∷ next.ms))
+      wrong (subst (Q logged) (sym is) (each front next.m next.ms logged next.is there))
+  at_next next (Fewer gate y opened closed fewer) = closed (let e : gate ≡ 165 = cc (next.opened, opened) in e)
+  at_next next (TwoMore y opened more) = omega (arith, few, more, ap length next.is, length-append front (next.m ∷ next.ms))
 
-  not_faulty : IsFaulty Q items front rest → ⊥
+  not_faulty : IsBadItemBy Q items front rest → ⊥
   not_faulty faulty =
       elim (fronts front (held bytes) rest (log.gate ∷ log.tail) begins.bounded log.bounded (same_fronts vault_mark front (held bytes) rest (log.gate ∷ log.tail) bytes begins.split log.split)) [
         | inl goes ↦ (elim (next_or_same front (held bytes) rest log.gate log.tail log.bounded goes) [
@@ -94,44 +85,22 @@ spelled_at (x ∷ items) (p ∷ prefix) m ms logged heads sizes there =
     let other_sizes : map length_in (take (length items) (prefix ++ m ∷ ms)) ≡ map logged_size items = cc sizes in
     spelled_at items prefix m ms logged others other_sizes there
 
-record_each : (items : List Logged) (prefix : List Record) (m : Record) (ms : List Record) (logged : Logged) → AreRecordsOfItems items (prefix ++ m ∷ ms) → slice_get items (length prefix) ≡ Some logged → IsRecordOfItem logged m
-record_each [] prefix m ms logged of there = absurd (cc there)
-record_each (x ∷ items) [] m ms logged of there = subst (λ (l : Logged). IsRecordOfItem l m) (same_Some x logged there) of.0
-record_each (x ∷ items) (p ∷ prefix) m ms logged of there = record_each items prefix m ms logged of.1 there
-
--- the head of an item with its seal, told of the item alone
-abbrev SpellsWhole : Item → Record → Type 0
-SpellsWhole it r = (seal : List ℕ) × IsItemHead it seal r.head (length r.payload)
-
-faulty_of : (items : List Logged) (front : List Record) (rest : List ℕ) → IsBadItem items front rest → IsFaulty SpellsWhole items front rest
-faulty_of items front rest (Broken y opened unfit) = Unfit y opened unfit
-faulty_of items front rest (WrongItem y r logged opened fits there wrong) = Another y r logged opened fits there (λ spells. wrong (record { seal = spells.0; head = spells.1 }))
-faulty_of items front rest (Fewer gate y opened closed fewer) = Few gate y opened closed fewer
-faulty_of items front rest (TwoMore y opened more) = Many y opened more
-
-bad_of : (items : List Logged) (front : List Record) (rest : List ℕ) → IsFaulty SpellsItem items front rest → IsBadItem items front rest
-bad_of items front rest (Unfit y opened unfit) = Broken y opened unfit
-bad_of items front rest (Another y r logged opened fits there wrong) =
+bad_of : (items : List Logged) (front : List Record) (rest : List ℕ) → IsBadItemBy SpellsLogged items front rest → IsBadItem items front rest
+bad_of items front rest (Broken y opened unfit) = Broken y opened unfit
+bad_of items front rest (WrongItem y r logged opened fits there wrong) =
     WrongItem y r logged opened fits there (λ of. wrong (of.seal, of.head.digest_length, of.head.spelling, of.head.payload))
-bad_of items front rest (Few gate y opened closed fewer) = Fewer gate y opened closed fewer
-bad_of items front rest (Many y opened more) = TwoMore y opened more
+bad_of items front rest (Fewer gate y opened closed fewer) = Fewer gate y opened closed fewer
+bad_of items front rest (TwoMore y opened more) = TwoMore y opened more
 
 pub faulty_bad : (items : List Logged) (bytes : List ℕ) (at : ℕ) → FaultyVault items bytes at → BadVault items bytes at
 faulty_bad items bytes at (inl foreign) = inl foreign
 faulty_bad items bytes at (inr (inl blank)) = inr (inl blank)
 faulty_bad items bytes at (inr (inr f)) =
-    inr (inr (record { front = f.front; rest = f.rest; records = f.records; few = f.few; begins = f.begins; place = f.place; bad = bad_of items f.front f.rest f.faulty }))
-
-longer_log : (mark bytes : List ℕ) → IsArea mark bytes → 9 < length bytes → Log mark (held bytes) bytes
-longer_log mark bytes area long = log_told mark bytes (area (by_test (leb (length bytes) 9) refl))
-  where
-    by_test : (b : Bool) → leb (length bytes) 9 ≡ b → leb (length bytes) 9 ≡ false
-    by_test true is = absurd (let few = leb-true (length bytes) 9 is in omega (arith, few, long))
-    by_test false is = is
+    inr (inr (record { front = f.front; rest = f.rest; records = f.records; few = f.few; begins = f.begins; place = f.place; bad = bad_of items f.front f.rest f.bad }))
 
 log_foreign : (bytes : List ℕ) → IsArea vault_mark bytes → IsForeign vault_mark bytes → ⊥
 log_foreign bytes area foreign =
-    let log = longer_log vault_mark bytes area foreign.longer in
+    let log = log_told vault_mark bytes (longer_log vault_mark bytes area foreign.longer) in
     not_foreign vault_mark (spelled_records (held bytes)) (log.gate ∷ log.tail) bytes refl log.split foreign
 
 blank_none : (items : List Logged) (bytes : List ℕ) → length bytes ≤ 9 → length items ≤ length (held bytes) → 0 < length items → ⊥
@@ -142,11 +111,9 @@ pub vault_reads_well : (items : List Logged) (bytes : List ℕ) (at : ℕ) → R
 vault_reads_well items bytes at reads (inl foreign) = log_foreign bytes reads.vault foreign.0
 vault_reads_well items bytes at reads (inr (inl blank)) = blank_none items bytes blank.0 reads.some blank.1
 vault_reads_well items bytes at reads (inr (inr bad)) =
-    not_faulty SpellsWhole items bytes bad.front bad.rest bad.begins (longer_log vault_mark bytes reads.vault bad.begins.longer) reads.some reads.few
-    (λ prefix m ms logged is there.
-    let of = record_each items prefix m ms logged (subst (AreRecordsOfItems items) is reads.records) there in
-    (of.seal, of.head))
-    (faulty_of items bad.front bad.rest bad.bad)
+    not_faulty IsRecordOfItem items bytes bad.front bad.rest bad.begins (log_told vault_mark bytes (longer_log vault_mark bytes reads.vault bad.begins.longer)) reads.some reads.few
+    (λ prefix m ms logged is there. item_of items prefix m ms logged (subst (AreRecordsOfItems items) is reads.records) there)
+    bad.bad
 
 -- one that stands for a history is not faulty
 pub stand_not_faulty : (rules : RuleSet) (h : List Entry) (e : Payloads) (c : Areas) (at : ℕ) → StandBut rules h e c → FaultyVault (after rules h).items c.vault at → ⊥
@@ -169,11 +136,11 @@ stand_not_faulty rules h e c at but faulty = by_fault faulty
     by_fault (inl foreign) = log_foreign c.vault but.vault foreign.0
     by_fault (inr (inl blank)) = blank_none (after rules h).items c.vault blank.0 enough blank.1
     by_fault (inr (inr f)) =
-        not_faulty SpellsItem (after rules h).items c.vault f.front f.rest f.begins (longer_log vault_mark c.vault but.vault f.begins.longer) enough but.one
+        not_faulty SpellsLogged (after rules h).items c.vault f.front f.rest f.begins (log_told vault_mark c.vault (longer_log vault_mark c.vault but.vault f.begins.longer)) enough but.one
         (λ prefix m ms logged is there. spelled_at (after rules h).items prefix m ms logged
         (subst (λ (l : List Record). map head_in (take (length (after rules h).items) l) ≡ item_heads (after rules h).items (seals_of (take (length (after rules h).items) l))) is but.hold.spell.items)
         (subst (λ (l : List Record). map length_in (take (length (after rules h).items) l) ≡ map logged_size (after rules h).items) is but.hold.spell.item_sizes) there)
-        f.faulty
+        f.bad
 
 -- the whole store
 

@@ -13,8 +13,8 @@ use Rattle.gate_log.specs.Places.{gate_from}
 use Rattle.delf_model.specs.State.{State, Logged}
 use Rattle.delf_book.specs.Keeping.{item_sizes}
 use Rattle.store_laws.specs.Stores.{vault_mark}
-use Rattle.opening_laws.specs.Places.{AreRecordsOfItems}
-use Rattle.delf_recovery.specs.Reading.{SpellsItem, ReadsItems, EndsUnspelled, IsFaulty, Unfit, Another, Few, Many, FaultyItem, FaultyVault, ReadsVault, HasItems, WhyFaulty, record_at}
+use Rattle.opening_laws.specs.Places.{AreRecordsOfItems, IsBadItemBy, Broken, WrongItem, Fewer, TwoMore}
+use Rattle.delf_recovery.specs.Reading.{SpellsLogged, ReadsItems, EndsUnspelled, FaultyItem, FaultyVault, ReadsVault, HasItems, WhyFaulty, record_at}
 use Rattle.delf_recovery.proofs.Records.{many_records}
 use Rattle.delf_recovery.proofs.Gates.{gate_place, stood, stood_end}
 use Rattle.delf_recovery.proofs.Started.{small_or_not, held_before, area_before}
@@ -92,7 +92,7 @@ module _ (plain : Type 0) (sizes : List (ℕ × ℕ)) (items : List Logged) (n :
           few = omega (arith, place, read.some);
           begins = at.begins;
           place = gate_place rs sizes n sized (omega (arith, inside, many));
-          faulty = Another at.rest (record_at rs n) logged refl at.fits (ap (slice_get items) place ∙ there) (wrong inside logged there is vault_mark rs sized front_there);
+          bad = WrongItem at.rest (record_at rs n) logged refl at.fits (ap (slice_get items) place ∙ there) (wrong inside logged there is vault_mark rs sized front_there);
         }
 
     -- the second record more
@@ -107,11 +107,11 @@ module _ (plain : Type 0) (sizes : List (ℕ × ℕ)) (items : List Logged) (n :
           few = omega (arith, place, read.some);
           begins = at.begins;
           place = gate_place rs sizes (n + 1) sized (omega (arith, inside, many));
-          faulty = Many at.rest refl (omega (arith, place, all, read.some));
+          bad = TwoMore at.rest refl (omega (arith, place, all, read.some));
         }
 
     -- what is faulty behind all records
-    at_end : (m : ℕ) → m ≡ length sizes → AreRecordsOfItems items (take m rs) → m ≤ length items + 1 → IsFaulty SpellsItem items (take m rs) (gate ∷ tail) → FaultyItem items c.vault (gate_from 8 sizes m)
+    at_end : (m : ℕ) → m ≡ length sizes → AreRecordsOfItems items (take m rs) → m ≤ length items + 1 → IsBadItemBy SpellsLogged items (take m rs) (gate ∷ tail) → FaultyItem items c.vault (gate_from 8 sizes m)
     at_end m whole of few faulty =
         let place : length (take m rs) ≡ m = length_take rs m (omega (arith, whole, many)) in
         record {
@@ -121,7 +121,7 @@ module _ (plain : Type 0) (sizes : List (ℕ × ℕ)) (items : List Logged) (n :
           few = omega (arith, place, few);
           begins = stood_end vault_mark rs gate tail c.vault longer bounded split m (omega (arith, whole, many));
           place = gate_place rs sizes m sized (omega (arith, whole, many));
-          faulty = faulty;
+          bad = faulty;
         }
 
   module _ (whole : Bool) (starts : whole ≡ true → Starts area.Vault vault_mark sizes c d) (breaks : whole ≡ false → BreaksOff vault_mark sizes c.vault)
@@ -145,13 +145,13 @@ module _ (plain : Type 0) (sizes : List (ℕ × ℕ)) (items : List Logged) (n :
             rw at (wrong_item b.records b.sized 165 b.rest b.longer (unwritten b.longer) b.bounded b.split inside o.0 o.1 wrong)
         by_place (inr all) =
             rw at (at_end b.records b.sized 165 b.rest b.longer (unwritten b.longer) b.bounded b.split n (omega (arith, all, read.few))
-            (read.read is vault_mark b.records b.sized (front_there b.records b.sized 165 b.rest b.longer (unwritten b.longer) b.bounded b.split)) (omega (arith, read.some)) (Unfit b.rest refl b.unfit))
+            (read.read is vault_mark b.records b.sized (front_there b.records b.sized 165 b.rest b.longer (unwritten b.longer) b.bounded b.split)) (omega (arith, read.some)) (Broken b.rest refl b.unfit))
     off b i (inr (inl (left, more, at))) =
         rw at (second_more b.records b.sized 165 b.rest b.longer (unwritten b.longer) b.bounded b.split (none left) more)
     off b i (inr (inr (left, broken, few, at))) =
         rw at (at_end b.records b.sized 165 b.rest b.longer (unwritten b.longer) b.bounded b.split (length sizes) refl
         (beyond items b.records n (length sizes) (none left) read.few (read.read is vault_mark b.records b.sized (front_there b.records b.sized 165 b.rest b.longer (unwritten b.longer) b.bounded b.split)))
-        (omega (arith, few, read.some)) (Unfit b.rest refl b.unfit))
+        (omega (arith, few, read.some)) (Broken b.rest refl b.unfit))
 
     -- of a whole one that is not blank
     on_whole : (s : Starts area.Vault vault_mark sizes c d) → 9 < length c.vault → whole ≡ true → (i : ℕ) → WhyFaulty has_item n (length sizes) whole i → FaultyItem items c.vault (gate_from 8 sizes i)
@@ -168,7 +168,7 @@ module _ (plain : Type 0) (sizes : List (ℕ × ℕ)) (items : List Logged) (n :
             let place : length (take n s.records) ≡ n = length_take s.records n (omega (arith, read.few, many_records s.records sizes s.sized)) in
             at_end s.records s.sized s.log.gate s.log.tail long (unwritten long) s.log.bounded split n (omega (arith, all, read.few))
             (read.read is vault_mark s.records s.sized (front_there s.records s.sized s.log.gate s.log.tail long (unwritten long) s.log.bounded split)) (omega (arith, read.some))
-            (Few s.log.gate s.log.tail refl s.log.closed (omega (arith, place, item_left left)))
+            (Fewer s.log.gate s.log.tail refl s.log.closed (omega (arith, place, item_left left)))
 
         by_why : WhyFaulty has_item n (length sizes) whole i → FaultyItem items c.vault (gate_from 8 sizes i)
         by_why (inl (left, at)) = rw at (by_place left (cases_lt n (length sizes)))

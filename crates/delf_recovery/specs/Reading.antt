@@ -1,12 +1,12 @@
 -- What the steps of an opening read.
-use Rattle.std.specs.Prelude.{◌≡◌, ◌≢◌, ◌⊎◌, ℕ, ◌+◌, ◌<◌, ◌≤◌, Bool, true, false, List, ◌∷◌, Some, Result, Ok, Err, length, map, take, slice_get}
+use Rattle.std.specs.Prelude.{◌≡◌, ◌⊎◌, ℕ, ◌+◌, ◌<◌, ◌≤◌, Bool, true, false, List, ◌∷◌, Some, Result, Ok, Err, length, map, take, slice_get}
 use Rattle.delf_disk.specs.declared.area.Area.{Area}
 use Rattle.delf_disk.specs.declared.area.Area.TheVariants.{Journal as JournalArea, Vault as VaultArea}
 use Rattle.delf_disk.specs.Areas.{Areas, area_of}
 use Rattle.delf_disk.specs.Causes.{Rose}
 use Rattle.gate_log.specs.Records.{Record, size_of, head_of, payload_of}
 use Rattle.gate_log.specs.Logs.{Front}
-use Rattle.gate_log.specs.Opening.{IsForeign, Fits, IsUnfit}
+use Rattle.gate_log.specs.Opening.{IsForeign}
 use Rattle.gate_log.specs.Places.{size_in}
 use Rattle.entry_codec.specs.EntryHead.{AreEntries, IsEntry, HasPayload, IsEntryHead, entry_head}
 use Rattle.entry_codec.specs.Field.{spelled}
@@ -20,7 +20,7 @@ use Rattle.delf_model.specs.Legal.{Legal, is_legal}
 use Rattle.payload_laws.specs.Holders.{record_size}
 use Rattle.ledger.specs.Ledgers.{Ledgered, state_of, IsSame, HasEntered}
 use Rattle.delf_book.specs.Keeping.{journal_sizes, item_sizes}
-use Rattle.opening_laws.specs.Places.{IsWrong, AreRecordsOf, AreRecordsOfItems, BadJournal, Begins, gate_behind}
+use Rattle.opening_laws.specs.Places.{IsWrong, AreRecordsOf, AreRecordsOfItems, BadJournal, BadItemBy, BadVaultBy}
 use Rattle.store_laws.specs.Logged.{held, IsArea}
 use Rattle.store_laws.specs.Stores.{vault_mark}
 use Rattle.delf_recovery.specs.declared.fault.OpenFault.{OpenFault}
@@ -121,28 +121,16 @@ abbrev pub EndsUnspelled : Type 0 → Area → List (ℕ × ℕ) → Areas → L
 EndsUnspelled plain area sizes areas items n =
     n < length sizes → (logged : Logged) → slice_get items n ≡ Some logged → plain → InFront area sizes areas (λ rs. SpellsItem logged.item (record_at rs n) → ⊥)
 
--- What is bad behind records of items, where Q is wanted of each record: no whole record with its gate stands behind an open
--- gate; a record there has no Q; there are fewer records than items; or two more.
-pub data IsFaulty (Q : Item → Record → Type 0) (items : List Logged) (front : List Record) (bytes : List ℕ) : Type 0 where
-  Unfit : (rest : List ℕ) → bytes ≡ 165 ∷ rest → IsUnfit rest → IsFaulty Q items front bytes
-  Another : (rest : List ℕ) → (r : Record) → (logged : Logged) → bytes ≡ 165 ∷ rest → Fits r.head r.payload rest →
-      slice_get items (length front) ≡ Some logged → (Q logged.item r → ⊥) → IsFaulty Q items front bytes
-  Few : (gate : ℕ) → (tail : List ℕ) → bytes ≡ gate ∷ tail → gate ≢ 165 → length front < length items → IsFaulty Q items front bytes
-  Many : (rest : List ℕ) → bytes ≡ 165 ∷ rest → length front ≡ length items + 1 → IsFaulty Q items front bytes
+-- the record spells the item that was logged
+abbrev pub SpellsLogged : Logged → Record → Type 0
+SpellsLogged logged r = SpellsItem logged.item r
 
--- the first place of the vault at which it is bad, by the heads of its items alone
-pub record FaultyItem (items : List Logged) (bytes : List ℕ) (at : ℕ) : Type 0 where
-  pub front : List Record
-  pub rest : List ℕ
-  pub records : AreRecordsOfItems items front
-  pub few : length front ≤ length items + 1
-  pub begins : Begins vault_mark front rest bytes
-  pub place : at ≡ gate_behind front
-  pub faulty : IsFaulty SpellsItem items front rest
+-- the places of the vault at which it is bad, by the heads of its items alone
+abbrev pub FaultyItem : List Logged → List ℕ → ℕ → Type 0
+FaultyItem = BadItemBy SpellsLogged
 
 abbrev pub FaultyVault : List Logged → List ℕ → ℕ → Type 0
-FaultyVault items bytes at =
-    (IsForeign vault_mark bytes × (at ≡ 0)) ⊎ ((length bytes ≤ 9) × (0 < length items) × (at ≡ 8)) ⊎ FaultyItem items bytes at
+FaultyVault = BadVaultBy SpellsLogged
 
 -- what a fault of reading the vault tells of its bytes
 abbrev pub ShowsFaulty : List Logged → List ℕ → OpenFault → Type 0

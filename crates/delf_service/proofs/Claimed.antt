@@ -11,7 +11,7 @@ use Rattle.delf_model.specs.Step.{after}
 use Rattle.delete_step.specs.Claims.{ClaimView}
 use Rattle.ledger.specs.Held.{AreHeld, MayBeHeld}
 use Rattle.ledger.proofs.Entering.{moment_bound}
-use Rattle.history_laws.proofs.Whole.{first_step}
+use Rattle.order_laws.proofs.First.{first_is_legal}
 use Rattle.delf_book.specs.Books.{Booked}
 use Rattle.delf_book.specs.Claims.{step_of, steps_of}
 use Rattle.delf_book.specs.Steps.{StepAnswers}
@@ -48,7 +48,7 @@ claimed_is_legal rules h claims claim now legal are at =
 pub turned : (x y : Standing) (now : ℕ) (r : Result Turned StepFault) → Legal x.key.rules x.history → StepsIn x y now r → IsCaused y → TurnsIn x y now r
 turned x y now r legal steps cause = record {
   legal = legal;
-  order = λ up. first_step x.key.rules x.history (moment_of (state_at x) now) legal;
+  order = λ up. first_is_legal x.key.rules x.history (moment_of (state_at x) now) legal;
   steps = steps;
   cause = cause;
 }

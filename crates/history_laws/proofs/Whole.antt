@@ -6,14 +6,13 @@ use Rattle.delf_model.specs.Step.{after}
 use Rattle.delf_model.specs.Legal.{Legal}
 use Rattle.delf_model.specs.State.{start}
 use Rattle.delf_model.specs.Payloads.{is_needed, payload_at, payloads_along, given_at}
-use Rattle.delf_model.specs.Sound.{Sound, PayloadsAreGiven, FirstIsLegal}
+use Rattle.delf_model.specs.Sound.{Sound, PayloadsAreGiven}
 use Rattle.delf_model.proofs.Runs.{legal_take}
 use Rattle.payload_laws.proofs.Given.{given_along, payload_given}
 use Rattle.delf_model.proofs.Good.{leaves_by_owner, keeps_room}
 use Rattle.reach_laws.proofs.Reach.{done_erases_reached}
 use Rattle.reach_laws.proofs.Calm.{order_does_not_matter}
 use Rattle.put_laws.proofs.Puts.{judged_puts}
-use Rattle.order_laws.proofs.First.{first_is_legal}
 use Rattle.history_laws.proofs.Union.{restore_is_union}
 use Rattle.history_laws.proofs.Inverse.{restore_is_inverse}
 
@@ -42,7 +41,3 @@ legal_is_sound rules history legal = record {
   given = payloads_given rules history legal;
   room_kept = keeps_room rules history legal;
 }
-
-pub first_step : (rules : RuleSet) (history : List Entry) (moment : ℕ) → Legal rules history →
-    FirstIsLegal (after rules history) moment
-first_step rules history moment legal = first_is_legal rules history moment legal

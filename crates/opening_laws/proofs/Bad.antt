@@ -17,7 +17,7 @@ use Rattle.entry_codec.proofs.Entries.{one_entry}
 use Rattle.store_laws.specs.Logged.{held, IsLog, IsArea}
 use Rattle.store_laws.specs.Stores.{journal_mark, vault_mark}
 use Rattle.store_laws.proofs.Spelled.{log_told}
-use Rattle.opening_laws.specs.Places.{gate_behind, IsRecordOf, IsWrong, AreRecordsOf, IsBadBehind, BadRecord, BadJournal, ReadsJournal, IsRecordOfItem, AreRecordsOfItems, IsBadItem, Broken, WrongItem, Fewer, TwoMore, BadItem, BadVault, BadPlace}
+use Rattle.opening_laws.specs.Places.{gate_behind, IsRecordOf, IsWrong, AreRecordsOf, IsBadBehind, BadRecord, BadJournal, ReadsJournal, IsRecordOfItem, AreRecordsOfItems, IsBadItemBy, IsBadItem, Broken, WrongItem, Fewer, TwoMore, BadItem, BadVault, BadPlace}
 use Rattle.opening_laws.proofs.Fronts.{GoesOn, fronts, NextRecord, next_or_same, not_foreign, same_fronts}
 
 -- the journal
@@ -87,7 +87,7 @@ one_bad_journal rules bytes a b (inr one) (inr two) = bad_apart rules bytes a b 
 
 -- a journal that reads has no bad place
 
-longer_log : (mark bytes : List ℕ) → IsArea mark bytes → 9 < length bytes → IsLog mark bytes
+pub longer_log : (mark bytes : List ℕ) → IsArea mark bytes → 9 < length bytes → IsLog mark bytes
 longer_log mark bytes area long = area (by_test (leb (length bytes) 9) refl)
   where
     by_test : (b : Bool) → leb (length bytes) 9 ≡ b → leb (length bytes) 9 ≡ false
@@ -118,7 +118,7 @@ one_reading rules h g bytes one two = same_history (start rules) h g (held bytes
 
 -- the vault
 
-item_of : (items : List Logged) (f : List Record) (m : Record) (ms : List Record) (logged : Logged) → AreRecordsOfItems items (f ++ m ∷ ms) → slice_get items (length f) ≡ Some logged → IsRecordOfItem logged m
+pub item_of : (items : List Logged) (f : List Record) (m : Record) (ms : List Record) (logged : Logged) → AreRecordsOfItems items (f ++ m ∷ ms) → slice_get items (length f) ≡ Some logged → IsRecordOfItem logged m
 item_of [] f m ms logged all there = absurd (cc there)
 item_of (x ∷ items) [] m ms logged all there = subst (λ (l : Logged). IsRecordOfItem l m) (same_Some x logged there) all.0
 item_of (x ∷ items) (r ∷ f) m ms logged all there = item_of items f m ms logged all.1 there
@@ -136,16 +136,16 @@ module _ (items : List Logged) (f longer : List Record) (x : List ℕ) (all : Ar
   items_go_well (TwoMore rest opened more) = omega (arith, few, more, ap length next.is, length-append f (next.m ∷ next.ms))
 
 -- there is a gate behind the records
-gate_there : (items : List Logged) (f : List Record) (x : List ℕ) → IsBadItem items f x → (v : ℕ) × (y : List ℕ) × (x ≡ v ∷ y)
-gate_there items f x (Broken rest opened unfit) = (165, rest, opened)
-gate_there items f x (WrongItem rest r logged opened fits there wrong) = (165, rest, opened)
-gate_there items f x (Fewer gate tail opened closed fewer) = (gate, tail, opened)
-gate_there items f x (TwoMore rest opened more) = (165, rest, opened)
+pub gate_there : (Q : Logged → Record → Type 0) (items : List Logged) (f : List Record) (x : List ℕ) → IsBadItemBy Q items f x → (v : ℕ) × (y : List ℕ) × (x ≡ v ∷ y)
+gate_there Q items f x (Broken rest opened unfit) = (165, rest, opened)
+gate_there Q items f x (WrongItem rest r logged opened fits there wrong) = (165, rest, opened)
+gate_there Q items f x (Fewer gate tail opened closed fewer) = (gate, tail, opened)
+gate_there Q items f x (TwoMore rest opened more) = (165, rest, opened)
 
 module _ (items : List Logged) (bytes : List ℕ) (a b : ℕ) (one : BadItem items bytes a) (two : BadItem items bytes b) where
   at_first : GoesOn one.front two.front one.rest two.rest → a ≡ b
   at_first goes =
-      let gate = gate_there items two.front two.rest two.bad in
+      let gate = gate_there IsRecordOfItem items two.front two.rest two.bad in
       elim (next_or_same one.front two.front one.rest gate.0 gate.1 two.begins.bounded (subst (GoesOn one.front two.front one.rest) gate.2 goes)) [
         | inl same ↦ one.place ∙ (ap gate_behind (sym same.0) ∙ sym two.place)
         | inr next ↦ absurd (items_go_well items one.front two.front one.rest two.records two.few next one.bad)

@@ -79,29 +79,39 @@ abbrev pub AreRecordsOfItems : List Logged → List Record → Type 0
 AreRecordsOfItems (logged ∷ items) (r ∷ rs) = IsRecordOfItem logged r × AreRecordsOfItems items rs
 AreRecordsOfItems items rs = Unit {0}
 
--- What is bad behind records of items: no whole record with its gate stands behind an open gate; a record there is not that of
--- its item; there are fewer records than items; or two more.
-pub data IsBadItem (items : List Logged) (front : List Record) (bytes : List ℕ) : Type 0 where
-  Broken : (rest : List ℕ) → bytes ≡ 165 ∷ rest → IsUnfit rest → IsBadItem items front bytes
+-- What is bad behind records of items, where Q is wanted of each record: no whole record with its gate stands behind an open
+-- gate; a record there has no Q; there are fewer records than items; or two more.
+pub data IsBadItemBy (Q : Logged → Record → Type 0) (items : List Logged) (front : List Record) (bytes : List ℕ) : Type 0 where
+  Broken : (rest : List ℕ) → bytes ≡ 165 ∷ rest → IsUnfit rest → IsBadItemBy Q items front bytes
   WrongItem : (rest : List ℕ) → (r : Record) → (logged : Logged) → bytes ≡ 165 ∷ rest → Fits r.head r.payload rest →
-      slice_get items (length front) ≡ Some logged → (IsRecordOfItem logged r → ⊥) → IsBadItem items front bytes
-  Fewer : (gate : ℕ) → (tail : List ℕ) → bytes ≡ gate ∷ tail → gate ≢ 165 → length front < length items → IsBadItem items front bytes
-  TwoMore : (rest : List ℕ) → bytes ≡ 165 ∷ rest → length front ≡ length items + 1 → IsBadItem items front bytes
+      slice_get items (length front) ≡ Some logged → (Q logged r → ⊥) → IsBadItemBy Q items front bytes
+  Fewer : (gate : ℕ) → (tail : List ℕ) → bytes ≡ gate ∷ tail → gate ≢ 165 → length front < length items → IsBadItemBy Q items front bytes
+  TwoMore : (rest : List ℕ) → bytes ≡ 165 ∷ rest → length front ≡ length items + 1 → IsBadItemBy Q items front bytes
 
 -- the first bad place behind the mark of the vault
-pub record BadItem (items : List Logged) (bytes : List ℕ) (at : ℕ) : Type 0 where
+pub record BadItemBy (Q : Logged → Record → Type 0) (items : List Logged) (bytes : List ℕ) (at : ℕ) : Type 0 where
   pub front : List Record
   pub rest : List ℕ
   pub records : AreRecordsOfItems items front
   pub few : length front ≤ length items + 1
   pub begins : Begins vault_mark front rest bytes
   pub place : at ≡ gate_behind front
-  pub bad : IsBadItem items front rest
+  pub bad : IsBadItemBy Q items front rest
 
 -- a blank vault has fewer records than there are items, with the closed gate that it is given
+abbrev pub BadVaultBy : (Logged → Record → Type 0) → List Logged → List ℕ → ℕ → Type 0
+BadVaultBy Q items bytes at =
+    (IsForeign vault_mark bytes × (at ≡ 0)) ⊎ ((length bytes ≤ 9) × (0 < length items) × (at ≡ 8)) ⊎ BadItemBy Q items bytes at
+
+-- where each record has to be that of its item
+abbrev pub IsBadItem : List Logged → List Record → List ℕ → Type 0
+IsBadItem = IsBadItemBy IsRecordOfItem
+
+abbrev pub BadItem : List Logged → List ℕ → ℕ → Type 0
+BadItem = BadItemBy IsRecordOfItem
+
 abbrev pub BadVault : List Logged → List ℕ → ℕ → Type 0
-BadVault items bytes at =
-    (IsForeign vault_mark bytes × (at ≡ 0)) ⊎ ((length bytes ≤ 9) × (0 < length items) × (at ≡ 8)) ⊎ BadItem items bytes at
+BadVault = BadVaultBy IsRecordOfItem
 
 -- the least bad place, that of the journal first
 abbrev pub BadPlace : RuleSet → Areas → Area → ℕ → Type 0

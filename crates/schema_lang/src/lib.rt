@@ -19,5 +19,5 @@ pub use line::{Line, Word, read_line, split_line};
 pub use number::{name_fault, read_number};
 pub use parse::{SchemaPart, parse_part, parse_schema};
 pub use print::print_schema;
-pub use row::Row;
+pub use row::{Row, named};
 pub use why::Why;

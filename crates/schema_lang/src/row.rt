@@ -84,7 +84,8 @@ fn worse(one: Option<Why>, other: Option<Why>) -> Option<Why>
     }
 }
 
-fn named(alloc: Global, text: &[u8]) -> Result<Name, AllocError>
+/// A name of bytes that are one. The only error is want of memory.
+pub fn named(alloc: Global, text: &[u8]) -> Result<Name, AllocError>
     requires { IsName text.now }
     ensures { IfOk result (λ name. name ≡ text.now) }
 {

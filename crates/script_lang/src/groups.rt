@@ -10,21 +10,11 @@ ghost use Rattle.script_lang.specs.Generated.{object_type, edge_type, generated_
 ghost use Rattle.script_lang.specs.TypeNumbers.{CommandNames};
 
 use delf_model::{
-    Bytes, Call, Command, EdgeNo, EdgeRule, EdgeType, JobName, Lane, LaneCommand, List, Name,
-    NameFault, ObjectId, ObjectRule, ObjectType, Schema, Script, TypeNo,
+    Bytes, Call, Command, EdgeNo, EdgeRule, EdgeType, JobName, Lane, LaneCommand, List, ObjectId,
+    ObjectRule, ObjectType, Schema, Script, TypeNo,
 };
+use schema_lang::named;
 use std::alloc::{AllocError, Global};
-
-fn named(alloc: Global, text: &[u8]) -> Result<Name, AllocError>
-    requires { IsName text.now }
-    ensures { IfOk result (λ name. name ≡ text.now) }
-{
-    match Name::of(alloc, text) {
-        Ok(name) => Ok(name),
-        Err(NameFault::NotAName) => unreachable!(),
-        Err(NameFault::OutOfMemory) => Err(AllocError),
-    }
-}
 
 fn object_type(alloc: Global, name: &[u8], rule: ObjectRule) -> Result<ObjectType, AllocError>
     requires { IsName name.now }

@@ -33,9 +33,12 @@ head_in r = r.head
 abbrev pub length_in : Record → ℕ
 length_in r = length r.payload
 
--- the seal at the end of a head
+-- a head of the restoration log ends with the digest of the payload, its seal
+abbrev pub seal_of : List ℕ → List ℕ
+seal_of head = drop (length head - 32) head
+
 abbrev pub seal_in : Record → List ℕ
-seal_in r = drop (length r.head - 32) r.head
+seal_in r = seal_of r.head
 
 abbrev pub seals_of : List Record → List (List ℕ)
 seals_of vault = map seal_in vault

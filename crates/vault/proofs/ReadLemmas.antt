@@ -4,7 +4,7 @@ use Rattle.std.proofs.lemmas.List.{drop-take}
 use Rattle.delf_model.specs.declared.rows.Item.{Item}
 use Rattle.entry_codec.specs.ItemHead.{IsItemHead}
 use Rattle.entry_codec.specs.Reading.{IsItemRead}
-use Rattle.vault.specs.Items.{seal_of}
+use Rattle.store_laws.specs.Stores.{seal_of}
 
 -- what was read of a head, told of the head itself
 pub spells_read : (r : Option (Item × List ℕ)) (bytes head : List ℕ) (n size : ℕ) → bytes ≡ head → n ≡ size

@@ -8,7 +8,7 @@ use Rattle.gate_log.specs.Records.{Record, size_of, head_of, payload_of}
 use Rattle.gate_log.specs.Logs.{Log}
 use Rattle.vault.specs.declared.fault.FetchFault.{FetchFault}
 use Rattle.vault.specs.declared.fault.FetchFault.TheVariants.{Failed, Damaged}
-use Rattle.vault.specs.Items.{seal_of}
+use Rattle.store_laws.specs.Stores.{seal_of}
 
 -- these bytes are the payload of record i, and its head holds their digest
 abbrev pub Fetched : Area → List (ℕ × ℕ) → ℕ → Areas → List ℕ → Type 0

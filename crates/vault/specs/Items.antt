@@ -1,25 +1,18 @@
 -- What the records of the restoration log say of items.
-use Rattle.std.specs.Prelude.{◌≡◌, ℕ, ◌-◌, List, Option, length, map, drop, codes}
+use Rattle.std.specs.Prelude.{◌≡◌, ℕ, List, Option, length, map}
 use Rattle.delf_disk.specs.declared.area.Area.{Area}
 use Rattle.delf_disk.specs.Areas.{Areas, area_of}
 use Rattle.delf_model.specs.declared.rows.Item.{Item}
 use Rattle.entry_codec.specs.Reading.{IsItemRead}
 use Rattle.gate_log.specs.Records.{Record, size_of, head_of, payload_of}
 use Rattle.gate_log.specs.Logs.{Log}
-
--- what the vault area begins with
-abbrev pub vault_mark : List ℕ
-vault_mark = codes "DELFVLT1"
+use Rattle.store_laws.specs.Stores.{seal_of}
 
 -- the item and the digest that record i spells, in an area that stands for records of these sizes; none where it spells no item
 abbrev pub ItemRead : Area → List (ℕ × ℕ) → ℕ → Areas → Option (Item × List ℕ) → Type 0
 ItemRead area sizes i areas found =
     (mark : List ℕ) (records : List Record) → map size_of records ≡ sizes → Log mark records (area_of area areas)
     → IsItemRead (head_of records i) (length (payload_of records i)) found
-
--- a record's head ends with the digest of its payload, its seal
-abbrev pub seal_of : List ℕ → List ℕ
-seal_of head = drop (length head - 32) head
 
 -- these bytes are the seal of record i
 abbrev pub SealRead : Area → List (ℕ × ℕ) → ℕ → Areas → List ℕ → Type 0

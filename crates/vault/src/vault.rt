@@ -14,7 +14,8 @@ ghost use Rattle.gate_log.specs.Opening.{IsForeign, IsBroken, Starts, Shows, Onl
 ghost use Rattle.gate_log.specs.Steps.{MayAdd, Adds, HeadRead, PayloadRead, MayScrub, Scrubs, MayDrop, Drops, MaySettle, Settles};
 ghost use Rattle.gate_log.specs.Places.{size_in};
 ghost use Rattle.gate_log.specs.Unsynced.{LosesNone};
-ghost use Rattle.vault.specs.Items.{vault_mark, ItemRead, SealRead};
+ghost use Rattle.store_laws.specs.Stores.{vault_mark};
+ghost use Rattle.vault.specs.Items.{ItemRead, SealRead};
 ghost use Rattle.vault.specs.Fetching.{Fetched, Compared, Differs, CountsFetch};
 
 use crate::fault::FetchFault;

@@ -12,7 +12,7 @@ use Rattle.delf_model.specs.Step.{after}
 use Rattle.delf_model.specs.Payloads.{payloads_after}
 use Rattle.delete_step.specs.Claims.{ClaimView}
 use Rattle.job_table.specs.Table.{given_up}
-use Rattle.ledger.proofs.Holding.{are_held_less}
+use Rattle.ledger.proofs.Holding.{are_held_less, given_up_free}
 use Rattle.ledger.specs.Ledgers.{Ledgered, state_of}
 use Rattle.store_laws.specs.Stores.{digest}
 use Rattle.delf_book.specs.Books.{Booked, state_in, IsCrashSafe, IsDurable}
@@ -20,7 +20,7 @@ use Rattle.delf_book.specs.Begun.{StaysSealed}
 use Rattle.delf_book.specs.Claims.{room_for, taken_by, step_of, steps_of, without, IsRead, AreRead}
 use Rattle.delf_book.specs.Keeping.{HasRoom, KeepsDown, KeepsPayloads, payloads_in}
 use Rattle.delf_book.specs.Steps.{step_entry}
-use Rattle.delf_book.proofs.Claiming.{claim_held, claims_less, claims_entered, claims_same, each_in, each_less, given_up_free, less_room, read_entered, read_same}
+use Rattle.delf_book.proofs.Claiming.{claim_held, claims_less, claims_entered, claims_same, each_in, each_less, less_room, read_entered, read_same}
 use Rattle.delf_book.proofs.Fallen.{fell_beside}
 use Rattle.delf_book.proofs.Finishing.{finish_line, of_claim, without_one}
 use Rattle.delf_book.proofs.Payloads.{rests_with, grew_by, keeps_longer, keeps_fallen, opening_still, opening_fell}
