@@ -48,13 +48,15 @@ fn each_write_fails_in_turn(rt: HostRuntime) -> Result<(), Fail> {
     let mut told = String::new(alloc);
     let mut done = 0u32;
     for (_, lines) in COMMANDS {
-        let (status, printed) = run_with(alloc, &script, 0, u64::from(done) + 1)?;
+        let next = done.saturating_add(1);
+        let (status, printed) = run_with(alloc, &script, 0, u64::from(next))?;
         assert_eq!(rt; status, Status::WriteFault { done });
         assert_eq!(rt; printed.as_slice(), told.as_bytes());
         told.push_str(lines)?;
-        done = done.saturating_add(1);
+        done = next;
     }
-    let (status, printed) = run_with(alloc, &script, 0, u64::from(done) + 1)?;
+    let next = u64::from(done.saturating_add(1));
+    let (status, printed) = run_with(alloc, &script, 0, next)?;
     assert_eq!(rt; status, Status::Done);
     assert_eq!(rt; printed.as_slice(), told.as_bytes());
     Ok(())
