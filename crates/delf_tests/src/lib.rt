@@ -2,11 +2,15 @@
 #![tactic(auto)]
 
 #[cfg(test)]
+mod books;
+#[cfg(test)]
 mod checks;
 #[cfg(test)]
 mod choices;
 #[cfg(test)]
 mod claims;
+#[cfg(test)]
+mod damage;
 #[cfg(test)]
 mod limits;
 #[cfg(test)]
@@ -14,9 +18,13 @@ mod loads;
 #[cfg(test)]
 mod openings;
 #[cfg(test)]
+mod outside;
+#[cfg(test)]
 mod photos;
 #[cfg(test)]
 mod reads;
+#[cfg(test)]
+mod reserved;
 #[cfg(test)]
 mod rows;
 #[cfg(test)]
@@ -25,3 +33,5 @@ mod runs;
 mod scans;
 #[cfg(test)]
 mod stops;
+#[cfg(test)]
+mod strange;
